@@ -1,0 +1,1 @@
+// The definitions of document 01: nothing here runs.
