@@ -21,6 +21,10 @@ unfoldable pub either : Bool → Bool → Bool
 either true b = true
 either false b = b
 
+unfoldable pub negate : Bool → Bool
+negate true = false
+negate false = true
+
 -- The three classes. They call upon each other, each on the parts of a formula.
 unfoldable mutual
   unfolding both
@@ -72,3 +76,14 @@ isSf (sf a b) = true
 unfoldable pub isPolicy : Form → Bool
 unfolding either isClause isSf
 isPolicy f = either (isClause f) (isSf f)
+
+-- `push` an atom, `imp` or `says`
+unfoldable pub isPushed : Form → Bool
+isPushed (atom p) = true
+isPushed top = false
+isPushed bot = false
+isPushed (and f g) = false
+isPushed (or f g) = false
+isPushed (imp f g) = true
+isPushed (says a f) = true
+isPushed (sf a b) = false

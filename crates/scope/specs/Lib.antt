@@ -1,3 +1,10 @@
 pub mod Form
 pub mod Request
 pub mod Answer
+pub mod Facts
+pub mod Obligation
+pub mod Derivation
+pub mod Held
+pub mod Limits
+pub mod Walk
+pub mod Models

@@ -1,0 +1,77 @@
+-- Document 01's section 'Facts at the worlds'.
+use Prim.Native.Nat.{ℕ, _<_}
+use mathlib.Core.List.{List, _∷_}
+
+-- A sequent has facts u ≤ v, u S_A v and u: A sf B.
+pub data Fact : Type 0 where
+  le : ℕ → ℕ → Fact
+  by : ℕ → ℕ → ℕ → Fact
+  sf : ℕ → ℕ → ℕ → Fact
+
+-- A set of facts H over n worlds and k principals is closed under the nine rules.
+pub record Rules (n k : ℕ) (H : Fact → Type 0) : Type 0 where
+  -- 1. u: A sf A for each world and principal
+  pub rule1 : (u a : ℕ) → u < n → a < k → H (sf u a a)
+  -- 2. u S_B v with u: A sf B gives u S_A v
+  pub rule2 : (u v a b : ℕ) → H (by b u v) → H (sf u a b) → H (by a u v)
+  -- 3. u: A sf B with u: B sf C gives u: A sf C
+  pub rule3 : (u a b c : ℕ) → H (sf u a b) → H (sf u b c) → H (sf u a c)
+  -- 4. u S_C v with u: A sf B gives v: A sf B
+  pub rule4 : (u v a b c : ℕ) → H (by c u v) → H (sf u a b) → H (sf v a b)
+  -- 5. u ≤ v with u: A sf B gives v: A sf B
+  pub rule5 : (u v a b : ℕ) → H (le u v) → H (sf u a b) → H (sf v a b)
+  -- 6. u ≤ v with v S_A w gives u S_A w
+  pub rule6 : (u v w a : ℕ) → H (le u v) → H (by a v w) → H (by a u w)
+  -- 7. u ≤ u
+  pub rule7 : (u : ℕ) → u < n → H (le u u)
+  -- 8. u ≤ v with v ≤ w gives u ≤ w
+  pub rule8 : (u v w : ℕ) → H (le u v) → H (le v w) → H (le u w)
+  -- 9. u S_B v with v S_A w gives u S_A w
+  pub rule9 : (u v w a b : ℕ) → H (by b u v) → H (by a v w) → H (by a u w)
+
+-- The facts that follow from a base: the base's own, and what the nine rules give. They hold nothing else (least such set).
+pub data Closed (n k : ℕ) (base : Fact → Type 0) : Fact → Type 0 where
+  given : {f : Fact} → base f → Closed n k base f
+  rule1 : {u a : ℕ} → u < n → a < k → Closed n k base (sf u a a)
+  rule2 : {u v a b : ℕ} → Closed n k base (by b u v) → Closed n k base (sf u a b) → Closed n k base (by a u v)
+  rule3 : {u a b c : ℕ} → Closed n k base (sf u a b) → Closed n k base (sf u b c) → Closed n k base (sf u a c)
+  rule4 : {u v a b c : ℕ} → Closed n k base (by c u v) → Closed n k base (sf u a b) → Closed n k base (sf v a b)
+  rule5 : {u v a b : ℕ} → Closed n k base (le u v) → Closed n k base (sf u a b) → Closed n k base (sf v a b)
+  rule6 : {u v w a : ℕ} → Closed n k base (le u v) → Closed n k base (by a v w) → Closed n k base (by a u w)
+  rule7 : {u : ℕ} → u < n → Closed n k base (le u u)
+  rule8 : {u v w : ℕ} → Closed n k base (le u v) → Closed n k base (le v w) → Closed n k base (le u w)
+  rule9 : {u v w a b : ℕ} → Closed n k base (by b u v) → Closed n k base (by a v w) → Closed n k base (by a u w)
+
+-- A list of facts as a base.
+pub data Among : List Fact → Fact → Type 0 where
+  here : {f : Fact} {fs : List Fact} → Among (f ∷ fs) f
+  there : {f g : Fact} {fs : List Fact} → Among fs f → Among (g ∷ fs) f
+
+-- It is closed under the rules,
+pub closed : (n k : ℕ) (base : Fact → Type 0) → Rules n k (Closed n k base)
+closed n k base =
+    record {
+      rule1 = λ u a p q. rule1 p q;
+      rule2 = λ u v a b p q. rule2 p q;
+      rule3 = λ u a b c p q. rule3 p q;
+      rule4 = λ u v a b c p q. rule4 p q;
+      rule5 = λ u v a b p q. rule5 p q;
+      rule6 = λ u v w a p q. rule6 p q;
+      rule7 = λ u p. rule7 p;
+      rule8 = λ u v w p q. rule8 p q;
+      rule9 = λ u v w a b p q. rule9 p q;
+    }
+
+-- and every set that is so and holds the base holds it whole: it is the least.
+pub least : {n k : ℕ} {base H : Fact → Type 0} {f : Fact} →
+    Rules n k H → ((g : Fact) → base g → H g) → Closed n k base f → H f
+least r b (given {f} p) = b f p
+least r b (rule1 {u} {a} p q) = r .rule1 u a p q
+least r b (rule2 {u} {v} {a} {b = c} p q) = r .rule2 u v a c (least r b p) (least r b q)
+least r b (rule3 {u} {a} {b = c} {c = d} p q) = r .rule3 u a c d (least r b p) (least r b q)
+least r b (rule4 {u} {v} {a} {b = d} {c} p q) = r .rule4 u v a d c (least r b p) (least r b q)
+least r b (rule5 {u} {v} {a} {b = c} p q) = r .rule5 u v a c (least r b p) (least r b q)
+least r b (rule6 {u} {v} {w} {a} p q) = r .rule6 u v w a (least r b p) (least r b q)
+least r b (rule7 {u} p) = r .rule7 u p
+least r b (rule8 {u} {v} {w} p q) = r .rule8 u v w (least r b p) (least r b q)
+least r b (rule9 {u} {v} {w} {a} {b = c} p q) = r .rule9 u v w a c (least r b p) (least r b q)
