@@ -1,11 +1,5 @@
--- The table of 'What the numbers count'.
-use Prim.Native.Nat.{ℕ, suc, _+_}
-use mathlib.Core.Bool.{Bool, true}
-use mathlib.Core.List.{List, [], _∷_}
-use lib.ListN.{length}
-use lib.Dec.{leb}
-use Rattle.scope.specs.Form.{both}
-use Rattle.scope.specs.Obligation.{Phase, goal, chunks, focus, Obligation}
+-- 'What the numbers count': the table of what is allowed, as far as it concerns the file; and the lines of the file, counted from 1.
+use Prim.Native.Nat.{ℕ, _+_}
 
 abbrev pub mostBytes : ℕ
 mostBytes = 65536
@@ -19,59 +13,47 @@ mostAtoms = 256
 abbrev pub mostFormulas : ℕ
 mostFormulas = 1024
 
-abbrev pub mostLines : ℕ
-mostLines = 128
+abbrev pub mostPolicyLines : ℕ
+mostPolicyLines = 128
 
 abbrev pub mostSteps : ℕ
 mostSteps = 2048
 
--- worlds of a sequent, root included
-abbrev pub mostWorlds : ℕ
-mostWorlds = 32
+-- '`use` takes a clause number, `to` a world number, each 0 to 65,535.'
+abbrev pub mostStepNumber : ℕ
+mostStepNumber = 65535
 
--- clauses of a sequent, policy lines included
-abbrev pub mostClauses : ℕ
-mostClauses = 256
+-- The file has, in this order: version, principals, atoms, formulas and that many form lines, clauses and that many clause lines,
+-- goal, steps and that many step lines. Formulas and policy lines count from 0, steps from 1.
+abbrev pub versionAt : ℕ
+versionAt = 1
 
--- open obligations: current, waiting, and subgoals met
-abbrev pub mostOpen : ℕ
-mostOpen = 256
+abbrev pub principalsAt : ℕ
+principalsAt = 2
 
--- chunks of an obligation
-abbrev pub mostChunks : ℕ
-mostChunks = 16
+abbrev pub atomsAt : ℕ
+atomsAt = 3
 
-unfoldable pub chunkCount : Phase → ℕ
-chunkCount (goal g) = 0
-chunkCount (chunks c cs g) = suc (length cs)
-chunkCount (focus d p w met) = 0
+abbrev pub formulasAt : ℕ
+formulasAt = 4
 
-unfoldable pub metCount : Phase → ℕ
-metCount (goal g) = 0
-metCount (chunks c cs g) = 0
-metCount (focus d p w met) = length met
+abbrev pub formAt : ℕ → ℕ
+formAt i = 5 + i
 
--- Each obligation counts for itself and for the subgoals met in it.
-unfoldable pub openCount : List Obligation → ℕ
-unfolding metCount
-openCount [] = 0
-openCount (o ∷ os) = suc (metCount (o .phase)) + openCount os
+abbrev pub clausesAt : ℕ → ℕ
+clausesAt formulas = 5 + formulas
 
--- Worlds, clauses and chunks of each obligation are within the limits.
-unfoldable pub small : List Obligation → Bool
-unfolding both chunkCount
-small [] = true
-small (o ∷ os) =
-    both
-    (both (leb (o .sequent .worlds) mostWorlds)
-    (both (leb (length (o .sequent .clauses)) mostClauses) (leb (chunkCount (o .phase)) mostChunks)))
-    (small os)
+abbrev pub clauseAt : ℕ → ℕ → ℕ
+clauseAt formulas j = 6 + formulas + j
 
--- Obligations os, with n more waiting behind them, keep the last four limits of the table.
-unfoldable pub within : ℕ → List Obligation → Bool
-unfolding both small openCount
-within n os = both (small os) (leb (openCount os + n) mostOpen)
+abbrev pub goalAt : ℕ → ℕ → ℕ
+goalAt formulas clauses = 6 + formulas + clauses
 
--- No limits.
-unfoldable pub free : ℕ → List Obligation → Bool
-free n os = true
+abbrev pub stepsAt : ℕ → ℕ → ℕ
+stepsAt formulas clauses = 7 + formulas + clauses
+
+abbrev pub stepAt : ℕ → ℕ → ℕ → ℕ
+stepAt formulas clauses s = 7 + formulas + clauses + s
+
+abbrev pub endAt : ℕ → ℕ → ℕ → ℕ
+endAt formulas clauses steps = 8 + formulas + clauses + steps
