@@ -1,6 +1,11 @@
 pub mod Form
 pub mod Facts
 pub mod Held
+pub mod Paths
+pub mod Computed
+pub mod ByRules
+pub mod Agree
+pub mod Laws
 pub mod Request
 pub mod Obligation
 pub mod Derivation
