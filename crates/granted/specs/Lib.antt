@@ -1,0 +1,9 @@
+pub mod Reasons
+pub mod Judged
+pub mod Fitting
+pub mod Steps
+pub mod Refusals
+pub mod Walks
+pub mod Granted
+pub mod FirstBreak
+pub mod LimitsOnly

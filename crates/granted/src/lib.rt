@@ -1,0 +1,1 @@
+// The theorems about the walk of steps: nothing here runs.

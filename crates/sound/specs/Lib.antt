@@ -1,0 +1,9 @@
+pub mod Over
+pub mod Meaning
+pub mod Steps
+pub mod Sound
+pub mod Tests
+pub mod Computed
+pub mod Refuted
+pub mod Cases
+pub mod Rows
