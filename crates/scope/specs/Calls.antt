@@ -1,7 +1,7 @@
 -- What a call of the reader and a call of the writer come to: the answer, and what stands in the lent tables and the output after it.
 use Prim.Native.Nat.{ℕ, zero, suc}
 use mathlib.Core.List.{List, []}
-use mathlib.Core.Bool.{Bool, cond}
+use mathlib.Core.Bool.{cond}
 use lib.Dec.{leb}
 use lib.ListN.{length}
 use Rattle.scope.specs.Request.{Request}

@@ -2,11 +2,11 @@
 -- then 3 at place 0 for a nonzero entry past the counts.'
 use Prim.Native.Nat.{ℕ, zero, suc, _*_}
 use mathlib.Core.List.{List, [], _∷_, _++_}
-use mathlib.Core.Bool.{Bool, true, false}
+use mathlib.Core.Bool.{Bool, true}
 use lib.Dec.{eqb}
 use lib.ListN.{length, drop}
 use Rattle.scope.specs.Form.{both}
-use Rattle.scope.specs.Request.{Row, Request}
+use Rattle.scope.specs.Request.{Request}
 use Rattle.scope.specs.Answer.{Answer, answer}
 use Rattle.scope.specs.Bytes.{joined}
 use Rattle.scope.specs.Limits.{principalsAt, atomsAt, formulasAt, formAt, clausesAt, clauseAt, goalAt, stepsAt, stepAt}

@@ -15,6 +15,7 @@ pub mod Walk
 pub mod Bytes
 pub mod Number
 pub mod Line
+pub mod Parts
 pub mod Kinds
 pub mod Limits
 pub mod Refusals
@@ -22,6 +23,7 @@ pub mod Text
 pub mod Reader
 pub mod Tables
 pub mod Checked
+pub mod Turns
 pub mod Calls
 pub mod Judge
 pub mod Models

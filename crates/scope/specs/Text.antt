@@ -6,7 +6,7 @@ use Rattle.scope.specs.Request.{Row, Request}
 use Rattle.scope.specs.Bytes.{bytes, joined}
 use Rattle.scope.specs.Number.{number, numeral}
 use Rattle.scope.specs.Line.{Shape, Line, lineText, countedText}
-use Rattle.scope.specs.Kinds.{Kind, formKinds, stepKinds, rowIn, rowText, rowShape}
+use Rattle.scope.specs.Kinds.{Kind, formKinds, stepKinds, rowText, rowShape}
 
 abbrev pub numberShape : Shape ℕ
 numberShape = record { thing = number; text = numeral }

@@ -1,0 +1,109 @@
+-- The checks of writer and judge pass exactly on the requests without refusal.
+use Prim.Native.Nat.{ℕ, zero, suc}
+use mathlib.Core.Path.{_≡_, refl, _∙_}
+use mathlib.Core.List.{List, [], _∷_, _++_}
+use native.Mathlib.Omega.{arith}
+use lib.ListN.{length}
+use Rattle.scope.specs.Answer.{Answer, answer}
+use Rattle.scope.specs.Request.{Request}
+use Rattle.scope.specs.Checked.{firstMet, eachOf, lineAnswers}
+use Rattle.trip.specs.Several.{Two, two, Each, none-left, one-more}
+use Rattle.trip.specs.File.{Sound}
+
+pub nothing-met : firstMet [] ≡ answer 0 0
+unfolding firstMet
+nothing-met = refl
+
+-- Nothing is met in a list if nothing is met in its first answer and in the rest.
+pub met-first : (k place : ℕ) (more : List Answer) → firstMet (answer k place ∷ more) ≡ answer 0 0 → Two (k ≡ 0) (firstMet more ≡ answer 0 0)
+unfolding firstMet
+met-first zero place more e = two refl e
+met-first (suc k) place more e =
+    let z : suc k ≡ 0 = cc in
+    absurd (omega arith)
+
+pub passes : (k place : ℕ) (more : List Answer) → k ≡ 0 → firstMet (answer k place ∷ more) ≡ firstMet more
+unfolding firstMet
+passes k place more e = rw e refl
+
+pub met-apart : (xs ys : List Answer) → firstMet (xs ++ ys) ≡ answer 0 0 → Two (firstMet xs ≡ answer 0 0) (firstMet ys ≡ answer 0 0)
+unfolding firstMet
+met-apart [] ys e = two refl e
+met-apart (answer zero p ∷ xs) ys e = met-apart xs ys e
+met-apart (answer (suc k) p ∷ xs) ys e =
+    let z : suc k ≡ 0 = cc in
+    absurd (omega arith)
+
+pub passes-all : (xs ys : List Answer) → firstMet xs ≡ answer 0 0 → firstMet (xs ++ ys) ≡ firstMet ys
+unfolding firstMet
+passes-all [] ys e = refl
+passes-all (answer zero p ∷ xs) ys e = passes-all xs ys e
+passes-all (answer (suc k) p ∷ xs) ys e =
+    let z : suc k ≡ 0 = cc in
+    absurd (omega arith)
+
+-- Where no refusal is met, the place is 0.
+pub met-nothing : (xs : List Answer) (place : ℕ) → firstMet xs ≡ answer 0 place → firstMet xs ≡ answer 0 0
+unfolding firstMet
+met-nothing [] place e = refl
+met-nothing (answer zero p ∷ xs) place e = met-nothing xs place e
+met-nothing (answer (suc k) p ∷ xs) place e =
+    let z : suc k ≡ 0 = cc in
+    absurd (omega arith)
+
+module _ {A : Type 0} (refusal : List A → A → ℕ) (place : List A → ℕ) where
+  each-met :
+      (before xs : List A) → firstMet (eachOf (λ b x. answer (refusal b x) (place b)) before xs) ≡ answer 0 0
+      → Each (λ b x. refusal b x ≡ 0) (length xs) before xs
+  unfolding eachOf
+  each-met before [] e = none-left
+  each-met before (x ∷ xs) e =
+      let p = met-first (refusal before x) (place before) (eachOf (λ b y. answer (refusal b y) (place b)) (before ++ (x ∷ [])) xs) e in
+      one-more (p .one) (each-met (before ++ (x ∷ [])) xs (p .two))
+
+  each-passes :
+      {n : ℕ} {before xs : List A} → Each (λ b x. refusal b x ≡ 0) n before xs
+      → firstMet (eachOf (λ b x. answer (refusal b x) (place b)) before xs) ≡ answer 0 0
+  unfolding eachOf firstMet
+  each-passes none-left = refl
+  each-passes (one-more {before = before} {x = x} {xs = xs} g e) =
+      passes (refusal before x) (place before) (eachOf (λ b y. answer (refusal b y) (place b)) (before ++ (x ∷ [])) xs) g ∙
+      each-passes e
+
+pub lines-sound : (q : Request) → firstMet (lineAnswers q) ≡ answer 0 0 → Sound q
+unfolding lineAnswers
+lines-sound q e =
+    let a = met-first _ _ _ e in
+    let b = met-first _ _ _ (a .two) in
+    let c = met-first _ _ _ (b .two) in
+    let d = met-apart _ _ (c .two) in
+    let f = met-first _ _ _ (d .two) in
+    let g = met-apart _ _ (f .two) in
+    let h = met-first _ _ _ (g .two) in
+    let i = met-first _ _ _ (h .two) in
+    let j = met-apart _ _ (i .two) in
+    record {
+      principals = a .one;
+      atoms = b .one;
+      formulas = c .one;
+      forms = each-met _ _ [] (q .forms) (d .one);
+      clauses = f .one;
+      lines = each-met _ _ [] (q .lines) (g .one);
+      goal = h .one;
+      step-count = i .one;
+      steps = each-met _ _ [] (q .steps) (j .one);
+    }
+
+pub sound-lines : (q : Request) → Sound q → firstMet (lineAnswers q) ≡ answer 0 0
+unfolding lineAnswers
+sound-lines q g =
+    passes _ _ _ (g .principals) ∙
+    passes _ _ _ (g .atoms) ∙
+    passes _ _ _ (g .formulas) ∙
+    passes-all _ _ (each-passes _ _ (g .forms)) ∙
+    passes _ _ _ (g .clauses) ∙
+    passes-all _ _ (each-passes _ _ (g .lines)) ∙
+    passes _ _ _ (g .goal) ∙
+    passes _ _ _ (g .step-count) ∙
+    passes-all _ _ (each-passes _ _ (g .steps)) ∙
+    nothing-met

@@ -1,0 +1,147 @@
+-- The whole file: the lines of a request read back from its text, and what reads as a request's lines is its text.
+use Prim.Native.Nat.{ℕ, suc, _+_, _<_, _≤_}
+use Prim.Native.String.{String}
+use mathlib.Core.Path.{_≡_, refl, ap}
+use mathlib.Core.List.{List, []}
+use mathlib.Core.Bool.{Bool, true}
+use native.Mathlib.Omega.{arith}
+use lib.Dec.{ltb}
+use lib.ListN.{length}
+use borrow.Author.Tests.{ltb-true}
+use Rattle.scope.specs.Bytes.{bytes, joined}
+use Rattle.scope.specs.Request.{Row, Request, policyClass, goalClass}
+use Rattle.scope.specs.Line.{line, lineText}
+use Rattle.scope.specs.Kinds.{Kind, formKinds, stepKinds, rowShape}
+use Rattle.scope.specs.Refusals.{demand, countRefusal, principalsRefusal, atomsRefusal, formulasRefusal, formRefusal, clausesRefusal, clauseRefusal, goalRefusal, stepsRefusal, stepRefusal}
+use Rattle.scope.specs.Text.{numberShape, numberLine, formulasLine, formLine, clausesLine, clauseLine, goalLine, stepsLine, stepLine, requestText}
+use Rattle.scope.specs.Reader.{formItem, clauseItem, stepItem, requestLines}
+use Rattle.trip.specs.Tests.{demand-met}
+use Rattle.trip.specs.Numbers.{number-there, number-back}
+use Rattle.trip.specs.Cuts.{free, numeral-free}
+use Rattle.trip.specs.Words.{Neat, form-kinds-neat, step-kinds-neat}
+use Rattle.trip.specs.Rows.{Sayable, row-there, row-back, row-clean}
+use Rattle.trip.specs.Small.{count-passed, row-sayable}
+use Rattle.trip.specs.Reads.{Shaped, Reads, line-reads}
+use Rattle.trip.specs.Several.{two, Each, seq-reads, done-reads, counted-reads, reads-as}
+
+-- A request without refusal, line by line.
+pub record Sound (q : Request) : Type 0 where
+  pub principals : principalsRefusal (q .principals) ≡ 0
+  pub atoms : atomsRefusal (q .atoms) ≡ 0
+  pub formulas : formulasRefusal (length (q .forms)) ≡ 0
+  pub forms : Each (λ before r. formRefusal (q .principals) (q .atoms) before r ≡ 0) (length (q .forms)) [] (q .forms)
+  pub clauses : clausesRefusal (length (q .lines)) ≡ 0
+  pub lines : Each (λ before f. clauseRefusal (q .forms) f ≡ 0) (length (q .lines)) [] (q .lines)
+  pub goal : goalRefusal (q .forms) (q .goal) ≡ 0
+  pub step-count : stepsRefusal (length (q .steps)) ≡ 0
+  pub steps : Each (λ before r. stepRefusal r ≡ 0) (length (q .steps)) [] (q .steps)
+
+number-shaped : Shaped numberShape (λ n. n < 100000)
+number-shaped =
+    record { there = number-there; back = number-back; clean = λ n h. numeral-free 10 n (omega arith) }
+
+row-shaped : (ks : List Kind) → Neat ks → Shaped (rowShape ks) (Sayable ks)
+row-shaped ks n =
+    record { there = λ r g. row-there ks r n g; back = λ s r e. row-back ks s r n e; clean = λ r g. row-clean ks r n (g .known) }
+
+-- A number line whose refusal keeps the number small.
+number-reads :
+    (key : String) (refusal : ℕ → ℕ) (i : ℕ) → free 10 (bytes key) ≡ true → ((n : ℕ) → refusal n ≡ 0 → n < 100000)
+    → Reads (line (numberLine key) refusal i) (lineText (numberLine key)) (λ n. refusal n ≡ 0)
+number-reads key refusal i f small = line-reads (numberLine key) refusal i f number-shaped small
+
+count-reads :
+    (key : String) (least most : ℕ) (i : ℕ) → free 10 (bytes key) ≡ true → most < 100000
+    → Reads (line (numberLine key) (countRefusal least most) i) (lineText (numberLine key)) (λ n. countRefusal least most n ≡ 0)
+count-reads key least most i f h =
+    number-reads key (countRefusal least most) i f (λ n e. omega (arith, count-passed least most n e .high))
+
+form-reads :
+    (principals atoms : ℕ) → principals ≤ 100000 → atoms ≤ 100000 → (before : List Row) → length before < 1024
+    → Reads (formItem principals atoms before) (lineText formLine) (λ r. formRefusal principals atoms before r ≡ 0)
+unfolding formRefusal free
+form-reads np na hp ha before h =
+    line-reads formLine (formRefusal np na before) (5 + length before) refl (row-shaped formKinds form-kinds-neat)
+    (λ r e.
+    row-sayable formKinds np na (length before) r form-kinds-neat
+    (record { principals-small = hp; atoms-small = ha; number-small = omega arith })
+    e)
+
+step-reads :
+    (formulas clauses : ℕ) (before : List Row) → length before < 2048
+    → Reads (stepItem formulas clauses before) (lineText stepLine) (λ r. stepRefusal r ≡ 0)
+unfolding stepRefusal free
+step-reads f c before h =
+    line-reads stepLine stepRefusal (7 + f + c + suc (length before)) refl (row-shaped stepKinds step-kinds-neat)
+    (λ r e.
+    row-sayable stepKinds 0 0 0 r step-kinds-neat
+    (record { principals-small = omega arith; atoms-small = omega arith; number-small = omega arith })
+    e)
+
+below : (t : Bool) (forms : List Row) (f : ℕ) → length forms ≤ 1024 → demand (ltb f (length forms)) 3 (demand t 5 0) ≡ 0 → f < 100000
+below t forms f h e = omega (arith, ltb-true f (length forms) (demand-met (ltb f (length forms)) 2 (demand t 5 0) e .0))
+
+clause-reads :
+    (forms : List Row) → length forms ≤ 1024 → (before : List ℕ) → length before < 128
+    → Reads (clauseItem forms before) (lineText clauseLine) (λ f. clauseRefusal forms f ≡ 0)
+unfolding clauseRefusal free
+clause-reads forms h before l =
+    number-reads "clause=" (clauseRefusal forms) (6 + length forms + length before) refl
+    (λ f e. below (policyClass forms f) forms f h e)
+
+goal-reads :
+    (forms : List Row) (i : ℕ) → length forms ≤ 1024 → Reads (line goalLine (goalRefusal forms) i) (lineText goalLine) (λ f. goalRefusal forms f ≡ 0)
+unfolding goalRefusal free
+goal-reads forms i h = number-reads "goal=" (goalRefusal forms) i refl (λ f e. below (goalClass forms f) forms f h e)
+
+most : (least high n : ℕ) → countRefusal least high n ≡ 0 → n ≤ high
+most least high n e = count-passed least high n e .high
+
+pub request-reads : Reads requestLines requestText Sound
+unfolding requestLines requestText joined free
+request-reads =
+    reads-as
+    (seq-reads (λ q. 1) (count-reads "version=" 1 1 1 refl (omega arith))
+    (λ v gv. seq-reads (λ q. q .principals) (count-reads "principals=" 1 16 2 refl (omega arith))
+    (λ np gp. seq-reads (λ q. q .atoms) (count-reads "atoms=" 1 256 3 refl (omega arith))
+    (λ na ga. seq-reads (λ q. q .forms)
+    (counted-reads formulasLine formulasRefusal 4 (formItem np na) formLine (λ before r. formRefusal np na before r ≡ 0) 1024
+    (count-reads "formulas=" 1 1024 4 refl (omega arith)) (most 1 1024)
+    (form-reads np na (omega (arith, most 1 16 np gp)) (omega (arith, most 1 256 na ga))))
+    (λ fs gf. seq-reads (λ q. q .lines)
+    (counted-reads clausesLine clausesRefusal (5 + length fs) (clauseItem fs) clauseLine (λ before f. clauseRefusal fs f ≡ 0) 128
+    (count-reads "clauses=" 0 128 (5 + length fs) refl (omega arith)) (most 0 128)
+    (clause-reads fs (most 1 1024 (length fs) (gf .one))))
+    (λ ls gl. seq-reads (λ q. q .goal) (goal-reads fs (6 + length fs + length ls) (most 1 1024 (length fs) (gf .one)))
+    (λ g gg. seq-reads (λ q. q .steps)
+    (counted-reads stepsLine stepsRefusal (7 + length fs + length ls) (stepItem (length fs) (length ls)) stepLine (λ before r. stepRefusal r ≡ 0) 2048
+    (count-reads "steps=" 1 2048 (7 + length fs + length ls) refl (omega arith)) (most 1 2048)
+    (step-reads (length fs) (length ls)))
+    (λ ss gs. done-reads (record { principals = np; atoms = na; forms = fs; lines = ls; goal = g; steps = ss }))
+    (λ ss q gs e. ap (λ x. x .steps) e))
+    (λ g q gg e. ap (λ x. x .goal) (e .two)))
+    (λ ls q gl e. ap (λ x. x .lines) (e .two .two)))
+    (λ fs q gf e. ap (λ x. x .forms) (e .two .two .two)))
+    (λ na q ga e. ap (λ x. x .atoms) (e .two .two .two .two)))
+    (λ np q gp e. ap (λ x. x .principals) (e .two .two .two .two .two)))
+    (λ v q gv e. let p = count-passed 1 1 v gv in omega arith))
+    (λ q g.
+    record {
+      principals = g .two .one;
+      atoms = g .two .two .one;
+      formulas = g .two .two .two .one .one;
+      forms = g .two .two .two .one .two;
+      clauses = g .two .two .two .two .one .one;
+      lines = g .two .two .two .two .one .two;
+      goal = g .two .two .two .two .two .one;
+      step-count = g .two .two .two .two .two .two .one .one;
+      steps = g .two .two .two .two .two .two .one .two;
+    })
+    (λ q g.
+    two refl
+    (two (g .principals)
+    (two (g .atoms)
+    (two (two (g .formulas) (g .forms))
+    (two (two (g .clauses) (g .lines))
+    (two (g .goal)
+    (two (two (g .step-count) (g .steps)) refl)))))))

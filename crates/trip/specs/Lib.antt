@@ -1,0 +1,16 @@
+pub mod Tests
+pub mod Numbers
+pub mod Cuts
+pub mod Words
+pub mod Rows
+pub mod Small
+pub mod Reads
+pub mod Several
+pub mod File
+pub mod Requests
+pub mod Checks
+pub mod Packing
+pub mod Fits
+pub mod Entries
+pub mod Trip
+pub mod Statements

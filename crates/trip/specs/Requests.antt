@@ -1,0 +1,30 @@
+-- From the lines to the file, where nothing follows: the text of a request without refusal reads back, and a text that reads well gives
+-- a request without refusal and is its text.
+use Prim.Native.Nat.{ℕ}
+use mathlib.Core.Path.{_≡_, sym, ap, _∙_}
+use mathlib.Core.List.{List, [], _∷_, append-nil}
+use Rattle.scope.specs.Request.{Request}
+use Rattle.scope.specs.Line.{Read, ok, bad}
+use Rattle.scope.specs.Text.{requestText}
+use Rattle.scope.specs.Reader.{read, requestLines, ended, readRequest}
+use Rattle.trip.specs.Tests.{never}
+use Rattle.trip.specs.File.{Sound, request-reads}
+
+pub text-reads : (q : Request) → Sound q → readRequest (requestText q) ≡ read q
+unfolding readRequest
+text-reads q g =
+    ap (λ s. ended (requestLines s)) (sym (append-nil (requestText q))) ∙ ap ended (request-reads .there q [] g)
+
+whole : (x : Read Request) (q : Request) → ended x ≡ read q → x ≡ ok q []
+unfolding ended
+whole (ok p []) q e = cc
+whole (ok p (b ∷ rest)) q e = never cc
+whole (bad k i) q e = never cc
+
+pub read-sound : (s : List ℕ) (q : Request) → readRequest s ≡ read q → Sound q
+unfolding readRequest
+read-sound s q e = request-reads .good s q [] (whole (requestLines s) q e)
+
+pub read-text : (s : List ℕ) (q : Request) → readRequest s ≡ read q → s ≡ requestText q
+unfolding readRequest
+read-text s q e = request-reads .back s q [] (whole (requestLines s) q e) ∙ append-nil (requestText q)

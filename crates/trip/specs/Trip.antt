@@ -1,0 +1,142 @@
+-- From requests to calls on lent tables: the checks pass exactly on tables that stand as reading leaves them, so that the two ways of
+-- the round trip follow from those over requests.
+use Prim.Native.Nat.{ℕ, zero, suc, _≤_}
+use mathlib.Core.Path.{_≡_, refl, sym, ap, _∙_}
+use mathlib.Core.List.{List, [], _∷_, _++_}
+use mathlib.Core.Bool.{Bool, true, false, cond}
+use lib.Dec.{leb}
+use lib.ListN.{length}
+use borrow.Author.Tests.{leb-true, le-leb}
+use Rattle.scope.specs.Answer.{Answer, answer}
+use Rattle.scope.specs.Request.{Request}
+use Rattle.scope.specs.Refusals.{demand}
+use Rattle.scope.specs.Text.{requestText}
+use Rattle.scope.specs.Reader.{Outcome, read, refused, readRequest}
+use Rattle.scope.specs.Tables.{Lent, hasRoom, requestOf, lentOf}
+use Rattle.scope.specs.Checked.{firstMet, lineAnswers, pastZero, checked}
+use Rattle.scope.specs.Calls.{reading, lentAfter, written, unwritten, writtenIf, writing}
+use Rattle.trip.specs.Tests.{never, demand-met, demand-passes}
+use Rattle.trip.specs.File.{Sound}
+use Rattle.trip.specs.Requests.{text-reads, read-sound, read-text}
+use Rattle.trip.specs.Checks.{nothing-met, met-first, met-apart, met-nothing, passes, passes-all, lines-sound, sound-lines}
+use Rattle.trip.specs.Fits.{text-fits}
+use Rattle.trip.specs.Entries.{has-room, lent-back, said}
+
+-- Tables that pass every check.
+pub record Fine (t : Lent) : Type 0 where
+  pub room : hasRoom (length (t .formTable)) (length (t .lineTable)) (length (t .stepTable)) ≡ true
+  pub sound : Sound (requestOf t)
+  pub past : pastZero t ≡ true
+
+-- The checks in their order.
+check-law :
+    (t : Lent)
+    → checked t
+    ≡ firstMet
+    (answer (demand (hasRoom (length (t .formTable)) (length (t .lineTable)) (length (t .stepTable))) 13 0) 0 ∷
+    (lineAnswers (requestOf t) ++ answer (demand (pastZero t) 3 0) 0 ∷ []))
+unfolding checked
+check-law t = refl
+
+unmet : (t : Lent) (place : ℕ) → checked t ≡ answer 0 place → checked t ≡ answer 0 0
+unmet t place e = check-law t ∙ met-nothing _ place (sym (check-law t) ∙ e)
+
+pub checked-fine : (t : Lent) → checked t ≡ answer 0 0 → Fine t
+checked-fine t e =
+    let a = met-first _ _ _ (sym (check-law t) ∙ e) in
+    let b = met-apart (lineAnswers (requestOf t)) _ (a .two) in
+    let c = met-first _ _ _ (b .two) in
+    record { room = demand-met _ 12 0 (a .one) .0; sound = lines-sound (requestOf t) (b .one); past = demand-met _ 2 0 (c .one) .0 }
+
+pub fine-checked : (t : Lent) → Fine t → checked t ≡ answer 0 0
+fine-checked t g =
+    check-law t ∙
+    passes _ _ _ (demand-passes _ 13 0 (g .room)) ∙
+    passes-all _ _ (sound-lines (requestOf t) (g .sound)) ∙
+    passes _ _ _ (demand-passes _ 3 0 (g .past)) ∙
+    nothing-met
+
+-- What a written text tells of the tables.
+pub record Wrote (t : Lent) (len : ℕ) (s : List ℕ) : Type 0 where
+  pub fine : Fine t
+  pub text : requestText (requestOf t) ≡ s
+  pub fits : length s ≤ len
+
+pub wrote : (t : Lent) (len : ℕ) (s : List ℕ) → writing t len ≡ written s → Wrote t len s
+unfolding writing writtenIf
+wrote t len s e = go (checked t) refl e
+  where
+    picked : (b : Bool) (u : List ℕ) → leb (length u) len ≡ b → cond b (written u) (unwritten 14 0) ≡ written s → (u ≡ s) × (length s ≤ len)
+    picked true u l q =
+        let z : u ≡ s = cc in
+        (z, rw z at (leb-true (length u) len l))
+    picked false u l q = never cc
+
+    go : (a : Answer) → checked t ≡ a → writtenIf a (requestText (requestOf t)) len ≡ written s → Wrote t len s
+    go (answer zero p) c q =
+        let w = picked (leb (length (requestText (requestOf t))) len) (requestText (requestOf t)) refl q in
+        record { fine = checked-fine t (unmet t p c); text = w .0; fits = w .1 }
+    go (answer (suc k) p) c q = never cc
+
+pub write-again : (t : Lent) (len : ℕ) → Fine t → length (requestText (requestOf t)) ≤ len → writing t len ≡ written (requestText (requestOf t))
+unfolding writing writtenIf
+write-again t len g h = rw (fine-checked t g, le-leb (length (requestText (requestOf t))) len h)
+
+-- A text in the lent room, short enough, is read as it stands.
+read-law :
+    (forms lines steps : ℕ) (s : List ℕ) → hasRoom forms lines steps ≡ true → length s ≤ 65536 → reading forms lines steps s ≡ readRequest s
+unfolding reading
+read-law f l n s r h = rw (r, le-leb (length s) 65536 h)
+
+record Got (forms lines steps : ℕ) (s : List ℕ) (q : Request) : Type 0 where
+  room : hasRoom forms lines steps ≡ true
+  request : readRequest s ≡ read q
+
+got : (forms lines steps : ℕ) (s : List ℕ) (q : Request) → reading forms lines steps s ≡ read q → Got forms lines steps s q
+unfolding reading
+got f l n s q e = go (hasRoom f l n) (leb (length s) 65536) refl e
+  where
+    go :
+        (a b : Bool) → hasRoom f l n ≡ a → cond a (cond b (readRequest s) (refused 1 0)) (refused 13 0) ≡ read q
+        → Got f l n s q
+    go true true r e′ = record { room = r; request = e′ }
+    go true false r e′ = never cc
+    go false b r e′ = never cc
+
+-- Reading a text with tables lent as long as those of t, and what that leaves in them.
+abbrev pub readFor : Lent → List ℕ → Outcome
+readFor t s = reading (length (t .formTable)) (length (t .lineTable)) (length (t .stepTable)) s
+
+abbrev pub leftFor : Lent → List ℕ → Lent
+leftFor t s = lentAfter (length (t .formTable)) (length (t .lineTable)) (length (t .stepTable)) (readFor t s)
+
+pub write-then-read :
+    (t : Lent) (len : ℕ) (s : List ℕ) → writing t len ≡ written s → (readFor t s ≡ read (requestOf t)) × (leftFor t s ≡ t)
+write-then-read t len s e =
+    let w = wrote t len s e in
+    let g = w .fine in
+    let h = text-fits (requestOf t) (g .sound) in
+    let r = read-law (length (t .formTable)) (length (t .lineTable)) (length (t .stepTable)) (requestText (requestOf t)) (g .room) h in
+    let b = text-reads (requestOf t) (g .sound) in
+    let x : readFor t s ≡ read (requestOf t) = cc (w .text) in
+    let y = lent-back t (has-room _ _ _ (g .room)) (g .sound) (g .past) in
+    (x, rw x (unfold lentAfter in y))
+
+pub read-then-write :
+    (forms lines steps len : ℕ) (s : List ℕ) (q : Request) → reading forms lines steps s ≡ read q → length s ≤ len
+    → writing (lentAfter forms lines steps (read q)) len ≡ written s
+unfolding lentAfter
+read-then-write f l n len s q e h =
+    let g = got f l n s q e in
+    let k = read-sound s q (g .request) in
+    let x = read-text s q (g .request) in
+    let d = said f l n q (has-room f l n (g .room)) k in
+    let t = lentOf f l n q in
+    let fine : Fine t =
+    record {
+      room = rw (d .form-room, d .line-room, d .step-room) (g .room);
+      sound = rw (d .back) k;
+      past = d .past;
+    } in
+    let y : requestText (requestOf t) ≡ s = ap requestText (d .back) ∙ sym x in
+    write-again t len fine (rw y h) ∙ ap (λ u. written u) y
