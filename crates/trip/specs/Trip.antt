@@ -38,7 +38,7 @@ check-law :
 unfolding checked
 check-law t = refl
 
-unmet : (t : Lent) (place : ℕ) → checked t ≡ answer 0 place → checked t ≡ answer 0 0
+pub unmet : (t : Lent) (place : ℕ) → checked t ≡ answer 0 place → checked t ≡ answer 0 0
 unmet t place e = check-law t ∙ met-nothing _ place (sym (check-law t) ∙ e)
 
 pub checked-fine : (t : Lent) → checked t ≡ answer 0 0 → Fine t
@@ -88,11 +88,11 @@ read-law :
 unfolding reading
 read-law f l n s r h = rw (r, le-leb (length s) 65536 h)
 
-record Got (forms lines steps : ℕ) (s : List ℕ) (q : Request) : Type 0 where
-  room : hasRoom forms lines steps ≡ true
-  request : readRequest s ≡ read q
+pub record Got (forms lines steps : ℕ) (s : List ℕ) (q : Request) : Type 0 where
+  pub room : hasRoom forms lines steps ≡ true
+  pub request : readRequest s ≡ read q
 
-got : (forms lines steps : ℕ) (s : List ℕ) (q : Request) → reading forms lines steps s ≡ read q → Got forms lines steps s q
+pub got : (forms lines steps : ℕ) (s : List ℕ) (q : Request) → reading forms lines steps s ≡ read q → Got forms lines steps s q
 unfolding reading
 got f l n s q e = go (hasRoom f l n) (leb (length s) 65536) refl e
   where
@@ -122,21 +122,23 @@ write-then-read t len s e =
     let y = lent-back t (has-room _ _ _ (g .room)) (g .sound) (g .past) in
     (x, rw x (unfold lentAfter in y))
 
+-- What was read stands in tables that pass every check, and they say the request that was read.
+pub read-fine :
+    (forms lines steps : ℕ) (s : List ℕ) (q : Request) → reading forms lines steps s ≡ read q
+    → Fine (lentOf forms lines steps q) × (requestOf (lentOf forms lines steps q) ≡ q)
+read-fine f l n s q e =
+    let g = got f l n s q e in
+    let k = read-sound s q (g .request) in
+    let d = said f l n q (has-room f l n (g .room)) k in
+    (record { room = rw (d .form-room, d .line-room, d .step-room) (g .room); sound = rw (d .back) k; past = d .past }, d .back)
+
 pub read-then-write :
     (forms lines steps len : ℕ) (s : List ℕ) (q : Request) → reading forms lines steps s ≡ read q → length s ≤ len
     → writing (lentAfter forms lines steps (read q)) len ≡ written s
 unfolding lentAfter
 read-then-write f l n len s q e h =
-    let g = got f l n s q e in
-    let k = read-sound s q (g .request) in
-    let x = read-text s q (g .request) in
-    let d = said f l n q (has-room f l n (g .room)) k in
+    let d = read-fine f l n s q e in
     let t = lentOf f l n q in
-    let fine : Fine t =
-    record {
-      room = rw (d .form-room, d .line-room, d .step-room) (g .room);
-      sound = rw (d .back) k;
-      past = d .past;
-    } in
-    let y : requestText (requestOf t) ≡ s = ap requestText (d .back) ∙ sym x in
-    write-again t len fine (rw y h) ∙ ap (λ u. written u) y
+    let x = read-text s q (got f l n s q e .request) in
+    let y : requestText (requestOf t) ≡ s = ap requestText (d .1) ∙ sym x in
+    write-again t len (d .0) (rw y h) ∙ ap (λ u. written u) y

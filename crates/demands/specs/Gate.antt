@@ -1,0 +1,116 @@
+-- The demands for the gate, from a file's bytes to the three numbers printed.
+use Prim.Native.Nat.{ℕ, zero, suc, _*_, _<_, _≤_}
+use mathlib.Core.Path.{_≡_, refl, sym, ap, _∙_}
+use mathlib.Core.Logic.{_↔_}
+use mathlib.Core.List.{List}
+use lib.ListN.{length}
+use Rattle.scope.specs.Answer.{Answer, answer}
+use Rattle.scope.specs.Limits.{mostFormulas, mostPolicyLines, mostSteps}
+use Rattle.scope.specs.Request.{Request}
+use Rattle.scope.specs.Reader.{Outcome, read, refused}
+use Rattle.scope.specs.Tables.{Lent, requestOf, lentOf}
+use Rattle.scope.specs.Checked.{checked}
+use Rattle.scope.specs.Calls.{reading}
+use Rattle.scope.specs.Derivation.{Derivation}
+use Rattle.scope.specs.Room.{within}
+use Rattle.scope.specs.Judge.{policyOf, goalOf, stepsOf, startOf, stepsAnswer, else, judge, Printed, prints, printed, judged, gate}
+use Rattle.scope.specs.Models.{Entailed}
+use Rattle.granted.specs.Reasons.{Settled, grants, breaks}
+use Rattle.granted.specs.FirstBreak.{break-range}
+use native.Mathlib.Omega.{arith}
+use Rattle.trip.specs.Requests.{read-sound}
+use Rattle.trip.specs.Trip.{got, read-fine, fine-checked}
+use Rattle.demands.specs.Firm.{reading-firm}
+use Rattle.demands.specs.Judged.{steps-settled, granted-settled, steps-entail, judge-law, else-passes}
+
+-- The gate reads into tables of just the room that is asked for.
+abbrev pub gateReads : List ℕ → Outcome
+gateReads s = reading (3 * mostFormulas) mostPolicyLines (2 * mostSteps) s
+
+-- What the gate may print for a file: the reader's refusal with no steps; or the steps read, with the answer that the rules settle.
+pub data Prints (s : List ℕ) : Printed → Type 0 where
+  unread : {k place : ℕ} → gateReads s ≡ refused k place → Prints s (prints k place 0)
+  answered : {q : Request} {k place : ℕ} → gateReads s ≡ read q → Settled within (startOf q) (stepsOf q) (answer k place) →
+      Prints s (prints k place (length (q .steps)))
+
+gate-law : (s : List ℕ) → gate s ≡ judged (gateReads s)
+unfolding gate
+gate-law s = refl
+
+printed-law : (k place n : ℕ) → printed (answer k place) n ≡ prints k place n
+unfolding printed
+printed-law k place n = refl
+
+judged-read : (q : Request) → judged (read q) ≡ printed (stepsAnswer q) (length (q .steps))
+unfolding judged
+judged-read q = refl
+
+judged-refused : (k place : ℕ) → judged (refused k place) ≡ prints k place 0
+unfolding judged
+judged-refused k place = refl
+
+-- Demands 1 and 2: for every file one answer, and it is allowed;
+pub gate-prints : (s : List ℕ) → Prints s (gate s)
+gate-prints s = go (gateReads s) refl
+  where
+    of : (q : Request) (a : Answer) → gateReads s ≡ read q → stepsAnswer q ≡ a → Prints s (printed a (length (q .steps)))
+    of q (answer k place) e f = rw (printed-law k place (length (q .steps))) (answered e (steps-settled q (answer k place) .0 f))
+
+    go : (o : Outcome) → gateReads s ≡ o → Prints s (gate s)
+    go (read q) e = rw (gate-law s, e, judged-read q) (of q (stepsAnswer q) e refl)
+    go (refused k place) e = rw (gate-law s, e, judged-refused k place) (unread e)
+
+-- no other is allowed.
+pub prints-gate : (s : List ℕ) (p : Printed) → Prints s p → gate s ≡ p
+prints-gate s (prints k place zero) (unread e) = gate-law s ∙ ap judged e ∙ judged-refused k place
+prints-gate s p (answered {q = q} {k = k} {place = place} e f) =
+    gate-law s ∙ ap judged e ∙ judged-read q ∙ ap (λ a. printed a (length (q .steps))) (steps-settled q (answer k place) .1 f) ∙
+    printed-law k place (length (q .steps))
+
+-- A file that is granted: it reads to a request, and its steps are a derivation within the limits.
+pub record Granting (s : List ℕ) (q : Request) : Type 0 where
+  pub reads : gateReads s ≡ read q
+  pub derives : Derivation within (startOf q) (stepsOf q)
+
+-- Demand 2: granted exactly then.
+pub gate-grants : (s : List ℕ) (q : Request) → Granting s q → gate s ≡ prints 0 0 (length (q .steps))
+gate-grants s q g = prints-gate s (prints 0 0 (length (q .steps))) (answered (g .reads) (grants (g .derives)))
+
+zero-granted : (q : Request) (a : Answer) (r : ℕ) → Settled within (startOf q) (stepsOf q) a → a ≡ answer 0 r →
+    Derivation within (startOf q) (stepsOf q)
+zero-granted q a r (grants d) e = d
+zero-granted q a r (breaks {k = k} b) e =
+    let z : k ≡ 0 = cc in
+    let h = break-range b in
+    absurd (omega arith)
+
+granting : (s : List ℕ) (p : Printed) (place n : ℕ) → Prints s p → p ≡ prints 0 place n → (q : Request) × Granting s q × (length (q .steps) ≡ n)
+granting s (prints k place′ zero) place n (unread e) z =
+    let y : k ≡ 0 = cc in
+    let f = reading-firm (3 * mostFormulas) mostPolicyLines (2 * mostSteps) s k place′ e in
+    absurd (omega arith)
+granting s p place n (answered {q = q} {k = k} {place = r} e f) z =
+    let a : k ≡ 0 = cc in
+    let b : length (q .steps) ≡ n = cc in
+    (q, record { reads = e; derives = zero-granted q (answer k r) r f (ap (λ x. answer x r) a) }, b)
+
+-- and nothing else is: an answer 0 comes of a request that was read, whose steps are a derivation, and counts its steps.
+pub granted-gate : (s : List ℕ) (place n : ℕ) → gate s ≡ prints 0 place n → (q : Request) × Granting s q × (length (q .steps) ≡ n)
+granted-gate s place n e = granting s (gate s) place n (gate-prints s) e
+
+-- Demand 3.
+pub gate-entails : (s : List ℕ) (q : Request) → Granting s q → Entailed (q .principals) (q .atoms) (policyOf q) (goalOf q)
+gate-entails s q g =
+    steps-entail q (read-sound s q (got (3 * mostFormulas) mostPolicyLines (2 * mostSteps) s q (g .reads) .request))
+    (steps-settled q (answer 0 0) .1 (grants (g .derives)))
+
+-- The gate is the judge on the tables that reading left.
+pub gate-judges : (s : List ℕ) (q : Request) → gateReads s ≡ read q →
+    gate s ≡ printed (judge (lentOf (3 * mostFormulas) mostPolicyLines (2 * mostSteps) q)) (length (q .steps))
+gate-judges s q e =
+    let t = lentOf (3 * mostFormulas) mostPolicyLines (2 * mostSteps) q in
+    let d = read-fine (3 * mostFormulas) mostPolicyLines (2 * mostSteps) s q e in
+    let c = fine-checked t (d .0) in
+    let j : judge t ≡ stepsAnswer q = judge-law t ∙ ap (λ a. else a (stepsAnswer (requestOf t))) c ∙
+    else-passes 0 (stepsAnswer (requestOf t)) ∙ ap stepsAnswer (d .1) in
+    gate-law s ∙ ap judged e ∙ judged-read q ∙ ap (λ a. printed a (length (q .steps))) (sym j)

@@ -1,0 +1,104 @@
+-- Demands 2 and 3 for the judge: its answer for every lent tables and counts is the refusal of their checks, or else granted exactly when the
+-- steps are a derivation within the limits, or else the first step that breaks the rules; and what is granted holds in every model.
+use Prim.Native.Nat.{ℕ, zero, suc, _<_}
+use mathlib.Core.Path.{_≡_, refl, sym, _∙_}
+use mathlib.Core.Logic.{_↔_}
+use Rattle.scope.specs.Answer.{Answer, answer}
+use Rattle.scope.specs.Request.{Request, formula}
+use Rattle.scope.specs.Tables.{Lent, requestOf}
+use Rattle.scope.specs.Checked.{firstMet, checked}
+use Rattle.scope.specs.Derivation.{Derivation}
+use Rattle.scope.specs.Room.{within}
+use Rattle.scope.specs.Judge.{policyOf, goalOf, stepsOf, startOf, stepsAnswer, else, judge}
+use Rattle.scope.specs.Models.{Model, Frame, Sat, SatAll, Entailed}
+use Rattle.granted.specs.Reasons.{Settled, grants}
+use Rattle.granted.specs.Granted.{granted}
+use Rattle.granted.specs.FirstBreak.{settled}
+use Rattle.sound.specs.Rows.{request-sound}
+use Rattle.trip.specs.Tests.{never}
+use Rattle.trip.specs.File.{Sound}
+use Rattle.trip.specs.Trip.{checked-fine, unmet}
+use Rattle.demands.specs.InRange.{rows-in}
+
+-- Every answer about the steps of a request is settled by the rules.
+pub steps-settled : (q : Request) (a : Answer) → stepsAnswer q ≡ a ↔ Settled within (startOf q) (stepsOf q) a
+unfolding stepsAnswer
+steps-settled q a = settled within (startOf q) (stepsOf q) a
+
+-- Settled as granted is derived.
+pub granted-settled : (q : Request) → Settled within (startOf q) (stepsOf q) (answer 0 0) → Derivation within (startOf q) (stepsOf q)
+unfolding stepsAnswer
+granted-settled q s = granted within (startOf q) (stepsOf q) .0 (steps-settled q (answer 0 0) .1 s)
+
+-- Granted steps of a request without refusal: in every model, at each world where every policy line holds, the goal holds.
+pub steps-entail : (q : Request) → Sound q → stepsAnswer q ≡ answer 0 0 → Entailed (q .principals) (q .atoms) (policyOf q) (goalOf q)
+unfolding stepsAnswer startOf policyOf goalOf
+steps-entail q s e =
+    request-sound within q (stepsOf q) (rows-in (q .principals) (q .atoms) (s .forms)) (granted within (startOf q) (stepsOf q) .0 e)
+
+-- The answers that are allowed for lent tables.
+pub data Answers (t : Lent) : Answer → Type 0 where
+  -- a refusal of the tables and counts
+  by-tables : {k place : ℕ} → checked t ≡ answer (suc k) place → Answers t (answer (suc k) place)
+  -- or granted, or the first break
+  by-steps : {a : Answer} → checked t ≡ answer 0 0 → Settled within (startOf (requestOf t)) (stepsOf (requestOf t)) a → Answers t a
+
+pub judge-law : (t : Lent) → judge t ≡ else (checked t) (stepsAnswer (requestOf t))
+unfolding judge
+judge-law t = refl
+
+else-refused : (k place : ℕ) (b : Answer) → else (answer (suc k) place) b ≡ answer (suc k) place
+unfolding else
+else-refused k place b = refl
+
+pub else-passes : (place : ℕ) (b : Answer) → else (answer 0 place) b ≡ b
+unfolding else
+else-passes place b = refl
+
+-- The judge's answer is allowed, and no other is.
+pub judge-allowed : (t : Lent) → Answers t (judge t)
+judge-allowed t = go (checked t) refl
+  where
+    go : (c : Answer) → checked t ≡ c → Answers t (judge t)
+    go (answer zero place) e =
+        rw (judge-law t, e, else-passes place (stepsAnswer (requestOf t)))
+        (by-steps (unmet t place e) (steps-settled (requestOf t) (stepsAnswer (requestOf t)) .0 refl))
+    go (answer (suc k) place) e = rw (judge-law t, e, else-refused k place (stepsAnswer (requestOf t))) (by-tables e)
+
+pub allowed-judge : (t : Lent) (a : Answer) → Answers t a → judge t ≡ a
+allowed-judge t (answer (suc k) place) (by-tables e) = rw (judge-law t, e) (else-refused k place (stepsAnswer (requestOf t)))
+allowed-judge t a (by-steps e s) =
+    rw (judge-law t, e) (else-passes 0 (stepsAnswer (requestOf t)) ∙ steps-settled (requestOf t) a .1 s)
+
+-- So any two answers allowed are equal.
+pub one-answer : (t : Lent) (a b : Answer) → Answers t a → Answers t b → a ≡ b
+one-answer t a b p q = sym (allowed-judge t a p) ∙ allowed-judge t b q
+
+-- Tables and counts that pass their checks, and steps that are a derivation by the rules within the limits.
+pub record Grants (t : Lent) : Type 0 where
+  pub fine : checked t ≡ answer 0 0
+  pub derives : Derivation within (startOf (requestOf t)) (stepsOf (requestOf t))
+
+-- Demand 2: granted exactly then.
+pub judge-grants : (t : Lent) → judge t ≡ answer 0 0 ↔ Grants t
+judge-grants t = (λ e. go (judge t) e (judge-allowed t), back)
+  where
+    go : (a : Answer) → a ≡ answer 0 0 → Answers t a → Grants t
+    go (answer (suc k) place) e (by-tables c) = never cc
+    go a e (by-steps c s) = record { fine = c; derives = granted-settled (requestOf t) (rw e at s) }
+
+    back : Grants t → judge t ≡ answer 0 0
+    back g = allowed-judge t (answer 0 0) (by-steps (g .fine) (grants (g .derives)))
+
+-- Demand 3: what is granted holds in every finite model over the request's principals and atoms, at each world where the policy holds.
+pub judge-entails : (t : Lent) → judge t ≡ answer 0 0 → Entailed (t .principals) (t .atoms) (policyOf (requestOf t)) (goalOf (requestOf t))
+unfolding requestOf
+judge-entails t e =
+    let g = judge-grants t .0 e in
+    steps-entail (requestOf t) (checked-fine t (g .fine) .sound) (steps-settled (requestOf t) (answer 0 0) .1 (grants (g .derives)))
+
+-- In the other form: a request that some model refutes is not granted.
+pub judge-refuted : (t : Lent) (m : Model) → Frame (t .principals) (t .atoms) m → (w : ℕ) → w < m .worlds →
+    SatAll m w (policyOf (requestOf t)) → (Sat m w (goalOf (requestOf t)) → ⊥) → judge t ≡ answer 0 0 → ⊥
+unfolding Entailed
+judge-refuted t m f w b p r e = r (judge-entails t e m f w b p)

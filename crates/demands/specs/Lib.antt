@@ -1,0 +1,4 @@
+pub mod InRange
+pub mod Judged
+pub mod Firm
+pub mod Gate

@@ -1,0 +1,1 @@
+// The three demands over the definitions: nothing here runs.
