@@ -1,0 +1,102 @@
+-- `tables::check_counts` meets its contract: the first count out of range is the answer, and the last one decides where the others are fine.
+use borrow.Author.Needs.{needs}
+use mathlib.Core.Path.{_≡_, _∙_, sym}
+use mathlib.Core.List.{[], _∷_}
+use Rattle.scope.specs.Answer.{answer}
+use Rattle.scope.specs.Refusals.{principalsRefusal, atomsRefusal, formulasRefusal}
+use Rattle.tables.specs.Met.{checkedOf}
+use Rattle.tables.specs.MetLaws.{met-one, one-stop, one-go}
+use Rattle.tables.specs.Answers.{countAnswers}
+use Rattle.tables.proofs.check_counts.Statement.{statement}
+use Rattle.tables.proofs.check_counts.Tie as tie
+
+count-refusal-requires : tie.Need-count-refusal-requires
+count-refusal-requires c κs = search needs
+
+answer-at-requires : tie.Need-answer-at-requires
+answer-at-requires c κs = search needs
+
+enum-told : tie.Need-enum-told
+enum-told c = search needs
+
+enum-told-2 : tie.Need-enum-told-2
+enum-told-2 c = search needs
+
+returns : tie.Need-returns
+unfolding countAnswers
+returns c =
+    let a = c .before .before .before .before .args in
+    let principals = answer (principalsRefusal (a .principals)) 2 in
+    let atoms = answer (atomsRefusal (a .atoms)) 3 in
+    let formulas = answer (formulasRefusal (a .formulas)) 4 in
+    let g = c .before .before .answer-at in
+    let e : g .result ≡ checkedOf principals = rw (c .before .before .before .count-refusal .ensures) at (g .ensures) in
+    one-stop principals (atoms ∷ formulas ∷ []) (g .result) (c .enum-told2 .given .0 .0) e (c .enum-told2 .given .1)
+
+count-refusal-requires-2 : tie.Need-count-refusal-requires-2
+count-refusal-requires-2 c κs = search needs
+
+answer-at-requires-2 : tie.Need-answer-at-requires-2
+answer-at-requires-2 c κs = search needs
+
+enum-told-3 : tie.Need-enum-told-3
+enum-told-3 c = search needs
+
+enum-told-4 : tie.Need-enum-told-4
+enum-told-4 c = search needs
+
+returns-2 : tie.Need-returns-2
+unfolding countAnswers
+returns-2 c =
+    let a = c .before .before .before .before .before .before .before .before .args in
+    let principals = answer (principalsRefusal (a .principals)) 2 in
+    let atoms = answer (atomsRefusal (a .atoms)) 3 in
+    let formulas = answer (formulasRefusal (a .formulas)) 4 in
+    let g = c .before .before .before .before .before .before .answer-at in
+    let h = c .before .before .answer-at2 in
+    let e : g .result ≡ checkedOf principals = rw (c .before .before .before .before .before .before .before .count-refusal .ensures) at (g .ensures) in
+    let f : h .result ≡ checkedOf atoms = rw (c .before .before .before .count-refusal2 .ensures) at (h .ensures) in
+    one-stop atoms (formulas ∷ []) (h .result) (c .enum-told4 .given .0 .0) f (c .enum-told4 .given .1) ∙
+    one-go principals (atoms ∷ formulas ∷ []) (g .result) e (c .before .before .before .before .enum-told .given .1)
+
+count-refusal-requires-3 : tie.Need-count-refusal-requires-3
+count-refusal-requires-3 c κs = search needs
+
+answer-at-requires-3 : tie.Need-answer-at-requires-3
+answer-at-requires-3 c κs = search needs
+
+returns-3 : tie.Need-returns-3
+unfolding countAnswers
+returns-3 c =
+    let a = c .before .before .before .before .before .before .before .before .before .before .args in
+    let principals = answer (principalsRefusal (a .principals)) 2 in
+    let atoms = answer (atomsRefusal (a .atoms)) 3 in
+    let formulas = answer (formulasRefusal (a .formulas)) 4 in
+    let g = c .before .before .before .before .before .before .before .before .answer-at in
+    let h = c .before .before .before .before .answer-at2 in
+    let k = c .answer-at3 in
+    let e : g .result ≡ checkedOf principals = rw (c .before .before .before .before .before .before .before .before .before .count-refusal .ensures) at (g .ensures) in
+    let f : h .result ≡ checkedOf atoms = rw (c .before .before .before .before .before .count-refusal2 .ensures) at (h .ensures) in
+    let m : k .result ≡ checkedOf formulas = rw (c .before .count-refusal3 .ensures) at (k .ensures) in
+    m ∙
+    sym (met-one formulas) ∙
+    one-go atoms (formulas ∷ []) (h .result) f (c .before .before .enum-told3 .given .1) ∙
+    one-go principals (atoms ∷ formulas ∷ []) (g .result) e (c .before .before .before .before .before .before .enum-told .given .1)
+
+pub check-counts-spec : {M : Type 1} → statement M
+check-counts-spec =
+    tie.close
+    (tie.spec
+    count-refusal-requires
+    answer-at-requires
+    enum-told
+    enum-told-2
+    returns
+    count-refusal-requires-2
+    answer-at-requires-2
+    enum-told-3
+    enum-told-4
+    returns-2
+    count-refusal-requires-3
+    answer-at-requires-3
+    returns-3)

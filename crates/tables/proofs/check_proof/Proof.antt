@@ -1,0 +1,124 @@
+-- `tables::check_proof` meets its contract: the goal comes first, then the count, and where both are fine the steps decide.
+use borrow.Author.Needs.{needs}
+use native.Mathlib.Omega.{arith}
+use Prim.Native.Nat.{_+_}
+use mathlib.Core.Path.{_≡_, sym, _∙_}
+use mathlib.Core.List.{_∷_}
+use Rattle.scope.specs.Answer.{answer}
+use Rattle.scope.specs.Refusals.{stepsRefusal}
+use Rattle.scope.specs.Tables.{unpack, stepEntry}
+use Rattle.classes.specs.Class.{goalIn}
+use Rattle.tables.specs.Met.{checkedOf}
+use Rattle.tables.specs.MetLaws.{one-stop, one-go}
+use Rattle.tables.specs.Answers.{classRefusal, goalAnswers, stepAnswers}
+use Rattle.tables.proofs.check_proof.Statement.{statement}
+use Rattle.tables.proofs.check_proof.Tie as tie
+
+cast-place : tie.Need-cast-place
+cast-place c = search needs
+
+add-place : tie.Need-add-place
+add-place c = search needs
+
+cast-place-2 : tie.Need-cast-place-2
+cast-place-2 c = search needs
+
+add-place-2 : tie.Need-add-place-2
+add-place-2 c = search needs
+
+goal-refusal-requires : tie.Need-goal-refusal-requires
+goal-refusal-requires c κs = search needs
+
+answer-at-requires : tie.Need-answer-at-requires
+answer-at-requires c κs = search needs
+
+enum-told : tie.Need-enum-told
+enum-told c = search needs
+
+enum-told-2 : tie.Need-enum-told-2
+enum-told-2 c = search needs
+
+returns : tie.Need-returns
+unfolding goalAnswers
+returns c =
+    let a = c .before .before .before .before .before .before .before .before .args in
+    let n = a .counts in
+    let goal = answer (classRefusal goalIn (a .classes .now) (n .formulas) (n .goal)) (6 + n .formulas + n .lines) in
+    let count = answer (stepsRefusal (n .steps)) (7 + n .formulas + n .lines) in
+    let all = stepAnswers (n .formulas) (n .lines) (unpack stepEntry (n .steps) (a .steps .now)) in
+    let g = c .before .before .answer-at in
+    let e : g .result ≡ checkedOf goal = rw (c .before .before .before .goal-refusal .ensures) at (g .ensures) in
+    one-stop goal (count ∷ all) (g .result) (c .enum-told2 .given .0 .0) e (c .enum-told2 .given .1)
+
+count-refusal-requires : tie.Need-count-refusal-requires
+count-refusal-requires c κs = search needs
+
+add-answer-at : tie.Need-add-answer-at
+add-answer-at c = search needs
+
+answer-at-requires-2 : tie.Need-answer-at-requires-2
+answer-at-requires-2 c κs = search needs
+
+enum-told-3 : tie.Need-enum-told-3
+enum-told-3 c = search needs
+
+enum-told-4 : tie.Need-enum-told-4
+enum-told-4 c = search needs
+
+returns-2 : tie.Need-returns-2
+unfolding goalAnswers
+returns-2 c =
+    let a = c .before .before .before .before .before .before .before .before .before .before .before .before .args in
+    let n = a .counts in
+    let goal = answer (classRefusal goalIn (a .classes .now) (n .formulas) (n .goal)) (6 + n .formulas + n .lines) in
+    let count = answer (stepsRefusal (n .steps)) (7 + n .formulas + n .lines) in
+    let all = stepAnswers (n .formulas) (n .lines) (unpack stepEntry (n .steps) (a .steps .now)) in
+    let g = c .before .before .before .before .before .before .answer-at in
+    let e : g .result ≡ checkedOf goal = rw (c .before .before .before .before .before .before .before .goal-refusal .ensures) at (g .ensures) in
+    let h = c .before .before .answer-at2 in
+    let place : 6 + n .formulas + n .lines + 1 ≡ 7 + n .formulas + n .lines = omega arith in
+    let f : h .result ≡ checkedOf count = rw (c .before .before .before .count-refusal .ensures, place) at (h .ensures) in
+    one-stop count all (h .result) (c .enum-told4 .given .0 .0) f (c .enum-told4 .given .1) ∙
+    one-go goal (count ∷ all) (g .result) e (c .before .before .before .before .enum-told .given .1)
+
+check-steps-requires : tie.Need-check-steps-requires
+check-steps-requires c κs = search needs
+
+returns-3 : tie.Need-returns-3
+unfolding goalAnswers
+returns-3 c =
+    let a = c .before .before .before .before .before .before .before .before .before .before .before .before .before .args in
+    let n = a .counts in
+    let goal = answer (classRefusal goalIn (a .classes .now) (n .formulas) (n .goal)) (6 + n .formulas + n .lines) in
+    let count = answer (stepsRefusal (n .steps)) (7 + n .formulas + n .lines) in
+    let all = stepAnswers (n .formulas) (n .lines) (unpack stepEntry (n .steps) (a .steps .now)) in
+    let g = c .before .before .before .before .before .before .before .answer-at in
+    let e : g .result ≡ checkedOf goal = rw (c .before .before .before .before .before .before .before .before .goal-refusal .ensures) at (g .ensures) in
+    let h = c .before .before .before .answer-at2 in
+    let place : 6 + n .formulas + n .lines + 1 ≡ 7 + n .formulas + n .lines = omega arith in
+    let f : h .result ≡ checkedOf count = rw (c .before .before .before .before .count-refusal .ensures, place) at (h .ensures) in
+    c .check-steps .ensures ∙
+    one-go count all (h .result) f (c .before .enum-told3 .given .1) ∙
+    one-go goal (count ∷ all) (g .result) e (c .before .before .before .before .before .enum-told .given .1)
+
+pub check-proof-spec : {M : Type 1} → statement M
+check-proof-spec =
+    tie.close
+    (tie.spec
+    cast-place
+    add-place
+    cast-place-2
+    add-place-2
+    goal-refusal-requires
+    answer-at-requires
+    enum-told
+    enum-told-2
+    returns
+    count-refusal-requires
+    add-answer-at
+    answer-at-requires-2
+    enum-told-3
+    enum-told-4
+    returns-2
+    check-steps-requires
+    returns-3)

@@ -1,0 +1,135 @@
+-- `tables::check_steps` meets its contract: in turn i the answers about the first i steps are fine, and answer i is that about row i.
+use borrow.Author.Needs.{needs}
+use native.Mathlib.Omega.{arith}
+use Prim.Native.Nat.{ℕ, suc, _-_, _<_, _≤_, _+_}
+use mathlib.Core.Path.{_≡_, sym}
+use lib.ListN.{length}
+use Rattle.scope.specs.Answer.{answer}
+use Rattle.scope.specs.Limits.{stepAt}
+use Rattle.scope.specs.Refusals.{stepRefusal}
+use Rattle.scope.specs.Tables.{unpack, stepEntry}
+use Rattle.tables.specs.Met.{checkedOf}
+use Rattle.tables.specs.MetLaws.{Passed, passed-none, passed-stop, passed-go, passed-all}
+use Rattle.tables.specs.Answers.{stepAnswers}
+use Rattle.tables.specs.Sections.{stepRow, steps-length, step-at}
+use Rattle.tables.proofs.check_steps.Statement.{statement}
+use Rattle.tables.proofs.check_steps.Tie as tie
+
+abbrev Inv-loop : tie.InvT-loop
+Inv-loop formulas lines count steps i₀ i = (i ≤ count) × Passed (stepAnswers formulas lines (unpack stepEntry count steps)) i
+
+abbrev μ-loop : tie.MeasureT-loop
+μ-loop formulas lines count steps i₀ i = count - i
+
+loop-holds : tie.Need-loop-holds Inv-loop μ-loop
+loop-holds c =
+    let a = c .before .args in
+    (omega arith, passed-none (stepAnswers (a .formulas) (a .lines) (unpack stepEntry (a .count) (a .steps .now))))
+
+cast-at : tie.Need-cast-at Inv-loop μ-loop
+cast-at c = search needs
+
+mul-at : tie.Need-mul-at Inv-loop μ-loop
+mul-at c = search needs
+
+entry-at-requires : tie.Need-entry-at-requires Inv-loop μ-loop
+entry-at-requires c κs = search needs
+
+add-entry-at : tie.Need-add-entry-at Inv-loop μ-loop
+add-entry-at c = search needs
+
+entry-at-requires-2 : tie.Need-entry-at-requires-2 Inv-loop μ-loop
+entry-at-requires-2 c κs = search needs
+
+step-refusal-requires : tie.Need-step-refusal-requires Inv-loop μ-loop
+step-refusal-requires c κs = search needs
+
+add-place : tie.Need-add-place Inv-loop μ-loop
+add-place c = search needs
+
+add-place-2 : tie.Need-add-place-2 Inv-loop μ-loop
+add-place-2 c = search needs
+
+cast-place : tie.Need-cast-place Inv-loop μ-loop
+cast-place c = search needs
+
+add-place-3 : tie.Need-add-place-3 Inv-loop μ-loop
+add-place-3 c = search needs
+
+answer-at-requires : tie.Need-answer-at-requires Inv-loop μ-loop
+answer-at-requires c κs = search needs
+
+enum-told : tie.Need-enum-told Inv-loop μ-loop
+enum-told c = search needs
+
+enum-told-2 : tie.Need-enum-told-2 Inv-loop μ-loop
+enum-told-2 c = search needs
+
+returns : tie.Need-returns Inv-loop μ-loop
+returns c =
+    let a = c .before .before .before .before .before .before .before .before .before .args in
+    let t = a .steps .now in
+    let all = stepAnswers (a .formulas) (a .lines) (unpack stepEntry (a .count) t) in
+    let i = c .before .before .before .before .before .before .before .loop .i in
+    let about = answer (stepRefusal (stepRow t i)) (stepAt (a .formulas) (a .lines) (suc i)) in
+    let place : 8 + a .formulas + a .lines + i ≡ stepAt (a .formulas) (a .lines) (suc i) = omega arith in
+    let h : i < length all = rw (steps-length (a .formulas) (a .lines) (a .count) t) (c .before .before .before .before .before .before .loop-test .taken) in
+    let g : c .before .before .answer-at .result ≡ checkedOf about =
+    rw (c .before .before .before .before .before .entry-at .ensures, c .before .before .before .before .entry-at2 .ensures, place) at (rw (c .before .before .before .step-refusal .ensures) at (c .before .before .answer-at .ensures)) in
+    passed-stop all i about (c .before .before .answer-at .result) (c .enum-told2 .given .0 .0) h (c .before .before .before .before .before .before .before .loop .inv .1)
+    (step-at (a .formulas) (a .lines) (a .count) t i (c .before .before .before .before .before .before .loop-test .taken)) g (c .enum-told2 .given .1)
+
+add-i : tie.Need-add-i Inv-loop μ-loop
+add-i c = search needs
+
+loop-less : tie.Need-loop-less Inv-loop μ-loop
+loop-less c = search needs
+
+loop-again : tie.Need-loop-again Inv-loop μ-loop
+loop-again c =
+    let a = c .before .before .before .before .before .before .before .before .before .args in
+    let t = a .steps .now in
+    let all = stepAnswers (a .formulas) (a .lines) (unpack stepEntry (a .count) t) in
+    let i = c .before .before .before .before .before .before .before .loop .i in
+    let about = answer (stepRefusal (stepRow t i)) (stepAt (a .formulas) (a .lines) (suc i)) in
+    let place : 8 + a .formulas + a .lines + i ≡ stepAt (a .formulas) (a .lines) (suc i) = omega arith in
+    let h : i < length all = rw (steps-length (a .formulas) (a .lines) (a .count) t) (c .before .before .before .before .before .before .loop-test .taken) in
+    let g : c .before .before .answer-at .result ≡ checkedOf about =
+    rw (c .before .before .before .before .before .entry-at .ensures, c .before .before .before .before .entry-at2 .ensures, place) at (rw (c .before .before .before .step-refusal .ensures) at (c .before .before .answer-at .ensures)) in (
+      omega arith,
+      passed-go all i about (c .before .before .answer-at .result) h (c .before .before .before .before .before .before .before .loop .inv .1)
+          (step-at (a .formulas) (a .lines) (a .count) t i (c .before .before .before .before .before .before .loop-test .taken)) g (c .enum-told .given .1),
+    )
+
+returns-2 : tie.Need-returns-2 Inv-loop μ-loop
+returns-2 c =
+    let a = c .before .before .before .args in
+    let all = stepAnswers (a .formulas) (a .lines) (unpack stepEntry (a .count) (a .steps .now)) in
+    let h : length all ≤ c .before .loop .i = rw (steps-length (a .formulas) (a .lines) (a .count) (a .steps .now)) (c .loop-test .left) in
+    sym (passed-all all (c .before .loop .i) h (c .before .loop .inv .1))
+
+pub check-steps-spec : {M : Type 1} → statement M
+check-steps-spec =
+    tie.close
+    (tie.spec
+    Inv-loop
+    μ-loop
+    loop-holds
+    cast-at
+    mul-at
+    entry-at-requires
+    add-entry-at
+    entry-at-requires-2
+    step-refusal-requires
+    add-place
+    add-place-2
+    cast-place
+    add-place-3
+    answer-at-requires
+    enum-told
+    enum-told-2
+    returns
+    add-i
+    loop-less
+    loop-again
+    returns-2)

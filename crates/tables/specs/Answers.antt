@@ -1,0 +1,49 @@
+-- What is asked of each part of lent tables, in the order of the text.
+use Prim.Native.Nat.{ℕ, zero, suc, _*_}
+use mathlib.Core.List.{List, [], _∷_, _++_}
+use mathlib.Core.Bool.{Bool, true, false}
+use lib.Dec.{leb, ltb, eqb}
+use lib.ListN.{length, getD, drop}
+use Rattle.scope.specs.Request.{Row}
+use Rattle.scope.specs.Answer.{Answer, answer}
+use Rattle.scope.specs.Limits.{principalsAt, atomsAt, formulasAt, formAt, clausesAt, clauseAt, goalAt, stepsAt, stepAt}
+use Rattle.scope.specs.Refusals.{demand, principalsRefusal, atomsRefusal, formulasRefusal, clausesRefusal, stepsRefusal, stepRefusal, rowRefusal}
+use Rattle.scope.specs.Kinds.{formKinds}
+use Rattle.scope.specs.Checked.{eachOf, pastZero}
+use Rattle.scope.specs.Tables.{Lent, hasRoom, unpack, formEntry, lineEntry, stepEntry}
+use Rattle.classes.specs.Class.{goalIn, policyIn}
+
+unfoldable pub roomAnswers : ℕ → ℕ → ℕ → List Answer
+roomAnswers forms lines steps = answer (demand (hasRoom forms lines steps) 13 0) 0 ∷ []
+
+unfoldable pub countAnswers : ℕ → ℕ → ℕ → List Answer
+countAnswers principals atoms formulas =
+    answer (principalsRefusal principals) principalsAt ∷
+    answer (atomsRefusal atoms) atomsAt ∷
+    answer (formulasRefusal formulas) formulasAt ∷
+    []
+
+-- The answer about a row that is formula number i.
+abbrev pub formAnswer : ℕ → ℕ → ℕ → Row → Answer
+formAnswer principals atoms i r = answer (rowRefusal formKinds principals atoms i r) (formAt i)
+
+unfoldable pub formAnswers : ℕ → ℕ → List Row → List Answer
+formAnswers principals atoms rows = eachOf (λ before r. formAnswer principals atoms (length before) r) [] rows
+
+-- A formula that a policy line or the goal names: it is below the count, and of the class that this test of its class byte asks.
+unfoldable pub classRefusal : (ℕ → Bool) → List ℕ → ℕ → ℕ → ℕ
+classRefusal test classes formulas f = demand (ltb f formulas) 3 (demand (test (getD classes f 0)) 5 0)
+
+unfoldable pub lineAnswers : List ℕ → ℕ → List ℕ → List Answer
+lineAnswers classes formulas fs =
+    eachOf (λ before f. answer (classRefusal policyIn classes formulas f) (clauseAt formulas (length before))) [] fs
+
+unfoldable pub goalAnswers : List ℕ → ℕ → ℕ → ℕ → ℕ → List Answer
+goalAnswers classes formulas lines goal steps =
+    answer (classRefusal goalIn classes formulas goal) (goalAt formulas lines) ∷
+    answer (stepsRefusal steps) (stepsAt formulas lines) ∷
+    []
+
+unfoldable pub stepAnswers : ℕ → ℕ → List Row → List Answer
+stepAnswers formulas lines rows =
+    eachOf (λ before r. answer (stepRefusal r) (stepAt formulas lines (suc (length before)))) [] rows

@@ -1,0 +1,6 @@
+pub mod Met
+pub mod MetLaws
+pub mod Answers
+pub mod Refusals
+pub mod Sections
+pub mod Whole

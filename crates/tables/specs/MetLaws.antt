@@ -1,0 +1,114 @@
+-- The first met of several answers: what comes after a refusal does not count, and what comes after answers that are fine does.
+use Prim.Native.Nat.{ℕ, zero, suc, _+_, _≤_, _<_}
+use native.Mathlib.Numerals.{add-one}
+use native.Mathlib.Omega.{arith}
+use mathlib.Core.Path.{_≡_, refl, ap, sym, _∙_}
+use mathlib.Core.List.{List, [], _∷_, _++_}
+use lib.ListN.{length, getD, take, drop}
+use lib.Seq.{take-suc, split-at, take-length}
+use Rattle.scope.specs.Answer.{Answer, answer}
+use Rattle.scope.specs.Checked.{firstMet}
+use Rattle.tables.specs.declared.Refusal.{Refusal}
+use Rattle.tables.specs.declared.Checked.{Checked}
+use Rattle.tables.specs.declared.Checked.the-variants.{Fine, Refused}
+use Rattle.tables.specs.Met.{answerOf, checkedOf, met}
+
+pub refused-at : (k place : ℕ) → (k ≡ 0 → ⊥) → Refused record { number = k; place = place } ≡ checkedOf (answer k place)
+unfolding checkedOf
+refused-at zero place h = absurd (h refl)
+refused-at (suc k) place h = refl
+
+pub met-fine : (a b : List Answer) → met a ≡ Fine → met (a ++ b) ≡ met b
+unfolding met firstMet checkedOf
+met-fine [] b e = refl
+met-fine (answer zero p ∷ a) b e = met-fine a b e
+met-fine (answer (suc k) p ∷ a) b e = let z : _≡_ {A = ℕ} 0 1 = cc in absurd (omega arith)
+
+pub met-refused : (a b : List Answer) (r : Refusal) → met a ≡ Refused r → met (a ++ b) ≡ Refused r
+unfolding met firstMet checkedOf
+met-refused [] b r e = let z : _≡_ {A = ℕ} 0 1 = cc in absurd (omega arith)
+met-refused (answer zero p ∷ a) b r e = met-refused a b r e
+met-refused (answer (suc k) p ∷ a) b r e = e
+
+-- What a check of a gave is the answer to all, where it is a refusal; else what comes after it decides.
+pub met-stop : (a b : List Answer) (g : Checked) (r : Refusal) → g ≡ met a → g ≡ Refused r → g ≡ met (a ++ b)
+met-stop a b g r e f = f ∙ sym (met-refused a b r (sym e ∙ f))
+
+pub met-go : (a b : List Answer) (g : Checked) → g ≡ met a → g ≡ Fine → met b ≡ met (a ++ b)
+met-go a b g e f = sym (met-fine a b (sym e ∙ f))
+
+pub met-one : (a : Answer) → met (a ∷ []) ≡ checkedOf a
+unfolding met firstMet checkedOf
+met-one (answer zero p) = refl
+met-one (answer (suc k) p) = refl
+
+pub met-front : (a b : List Answer) → met (a ++ b) ≡ Fine → met a ≡ Fine
+unfolding met firstMet checkedOf
+met-front [] b e = refl
+met-front (answer zero p ∷ a) b e = met-front a b e
+met-front (answer (suc k) p ∷ a) b e = e
+
+pub met-back : (a b : List Answer) → met (a ++ b) ≡ Fine → met b ≡ Fine
+met-back a b e = sym (met-fine a b (met-front a b e)) ∙ e
+
+pub fine-none : (k place : ℕ) → checkedOf (answer k place) ≡ Fine → k ≡ 0
+unfolding checkedOf
+fine-none zero place e = refl
+fine-none (suc k) place e = let z : _≡_ {A = ℕ} 0 1 = cc in absurd (omega arith)
+
+pub one-stop : (x : Answer) (b : List Answer) (g : Checked) (r : Refusal) → g ≡ checkedOf x → g ≡ Refused r → g ≡ met (x ∷ b)
+one-stop x b g r e f = met-stop (x ∷ []) b g r (e ∙ sym (met-one x)) f
+
+pub one-go : (x : Answer) (b : List Answer) (g : Checked) → g ≡ checkedOf x → g ≡ Fine → met b ≡ met (x ∷ b)
+one-go x b g e f = met-go (x ∷ []) b g (e ∙ sym (met-one x)) f
+
+-- A refusal's number is not 0, so the code's answer says all of document 01's.
+pub first-answer : (a : List Answer) → answerOf (met a) ≡ firstMet a
+unfolding met firstMet checkedOf answerOf
+first-answer [] = refl
+first-answer (answer zero p ∷ a) = first-answer a
+first-answer (answer (suc k) p ∷ a) = refl
+
+-- The first i of several answers are fine.
+pub record Passed (a : List Answer) (i : ℕ) : Type 0 where
+  pub most : i ≤ length a
+  pub fine : met (take i a) ≡ Fine
+
+abbrev pub answerAt : List Answer → ℕ → Answer
+answerAt a i = getD a i (answer 0 0)
+
+pub passed-none : (a : List Answer) → Passed a 0
+unfolding met firstMet checkedOf
+passed-none a = record { most = omega arith; fine = refl }
+
+pub passed-more : (a : List Answer) (i : ℕ) → i < length a → Passed a i → checkedOf (answerAt a i) ≡ Fine → Passed a (i + 1)
+passed-more a i h p e =
+    record {
+      most = omega arith;
+      fine =
+          ap (λ (k : ℕ). met (take k a)) (add-one i) ∙
+          ap met (take-suc a i (answer 0 0) h) ∙
+          met-fine (take i a) (answerAt a i ∷ []) (p .fine) ∙
+          met-one (answerAt a i) ∙
+          e;
+    }
+
+pub passed-refused : (a : List Answer) (i : ℕ) (r : Refusal) → i < length a → Passed a i → checkedOf (answerAt a i) ≡ Refused r → met a ≡ Refused r
+passed-refused a i r h p e =
+    ap met (split-at a i (answer 0 0) h) ∙
+    met-fine (take i a) (answerAt a i ∷ drop (suc i) a) (p .fine) ∙
+    met-refused (answerAt a i ∷ []) (drop (suc i) a) r (met-one (answerAt a i) ∙ e)
+
+pub passed-all : (a : List Answer) (i : ℕ) → length a ≤ i → Passed a i → met a ≡ Fine
+passed-all a i h p =
+    let e : i ≡ length a = omega (arith, p .most) in
+    ap met (sym (take-length a)) ∙ ap (λ (k : ℕ). met (take k a)) (sym e) ∙ p .fine
+
+-- What a check of answer i gave is the answer to all, where it is a refusal; else one more is passed.
+pub passed-stop : (a : List Answer) (i : ℕ) (x : Answer) (g : Checked) (r : Refusal) → i < length a → Passed a i →
+    answerAt a i ≡ x → g ≡ checkedOf x → g ≡ Refused r → g ≡ met a
+passed-stop a i x g r h p e f k = k ∙ sym (passed-refused a i r h p (ap checkedOf e ∙ sym f ∙ k))
+
+pub passed-go : (a : List Answer) (i : ℕ) (x : Answer) (g : Checked) → i < length a → Passed a i →
+    answerAt a i ≡ x → g ≡ checkedOf x → g ≡ Fine → Passed a (i + 1)
+passed-go a i x g h p e f k = passed-more a i h p (ap checkedOf e ∙ sym f ∙ k)

@@ -1,0 +1,107 @@
+-- The answers about the things of a table: as many as there are things, and answer i is that about thing i.
+use Prim.Native.Nat.{ℕ, zero, suc, _+_, _*_, _<_, _≤_}
+use native.Mathlib.Nat.{not-suc-le-zero, le-of-suc-le-suc}
+use native.Mathlib.Omega.{arith}
+use mathlib.Core.Path.{_≡_, refl, ap, sym, _∙_}
+use mathlib.Core.List.{List, [], _∷_, _++_}
+use mathlib.Core.Bool.{Bool, true, false}
+use lib.ListN.{length, getD, take, drop, length-append, drop-of-length-le}
+use lib.Seq.{drop-cons}
+use native.Mathlib.Numerals.{add-one}
+use borrow.Author.Tests.{ne-eqb}
+use Rattle.scope.specs.Request.{Row}
+use Rattle.scope.specs.Answer.{Answer, answer}
+use Rattle.scope.specs.Limits.{formAt, clauseAt, stepAt}
+use Rattle.scope.specs.Refusals.{stepRefusal}
+use Rattle.scope.specs.Checked.{eachOf, allZero}
+use Rattle.scope.specs.Tables.{Entry, unpack, formEntry, lineEntry, stepEntry}
+use Rattle.classes.specs.Class.{policyIn}
+use Rattle.classes.specs.Rows.{unpack-at, unpack-length, number-at, formRow, form-row}
+use Rattle.tables.specs.MetLaws.{answerAt}
+use Rattle.tables.specs.Answers.{formAnswer, formAnswers, classRefusal, lineAnswers, stepAnswers}
+
+each-length : {A : Type 0} (about : List A → A → Answer) (before xs : List A) → length (eachOf about before xs) ≡ length xs
+unfolding eachOf
+each-length about before [] = refl
+each-length about before (x ∷ xs) = ap suc (each-length about (before ++ (x ∷ [])) xs)
+
+each-at : {A : Type 0} (f : ℕ → A → Answer) (before xs : List A) (i : ℕ) (d : A) → i < length xs →
+    answerAt (eachOf (λ (b : List A). f (length b)) before xs) i ≡ f (length before + i) (getD xs i d)
+unfolding eachOf
+each-at f before [] i d h = absurd (not-suc-le-zero h)
+each-at f before (x ∷ xs) zero d h =
+    let e : length before ≡ length before + 0 = omega arith in
+    ap (λ (k : ℕ). f k x) e
+each-at f before (x ∷ xs) (suc i) d h =
+    let e : length (before ++ (x ∷ [])) + i ≡ length before + suc i = simp length-append (omega arith) in
+    each-at f (before ++ (x ∷ [])) xs i d (le-of-suc-le-suc h) ∙ ap (λ (k : ℕ). f k (getD xs i d)) e
+
+module _ {A : Type 0} (e : Entry A) (f : ℕ → A → Answer) (n : ℕ) (t : List ℕ) where
+  abbrev pub section : List Answer
+  section = eachOf (λ (b : List A). f (length b)) [] (unpack e n t)
+
+  pub section-length : length section ≡ n
+  section-length = each-length (λ (b : List A). f (length b)) [] (unpack e n t) ∙ unpack-length e n t
+
+  pub section-at : (i : ℕ) → i < n → answerAt section i ≡ f i (e .get (take (e .width) (drop (i * e .width) t)))
+  section-at i h =
+      let x = e .get [] in
+      let k : i < length (unpack e n t) = rw (unpack-length e n t) h in
+      let z : 0 + i ≡ i = omega arith in
+      each-at f [] (unpack e n t) i x k ∙ ap (λ (m : ℕ). f m (getD (unpack e n t) i x)) z ∙ ap (f i) (unpack-at e n t i x h)
+
+-- The three sections.
+pub forms-length : (p a n : ℕ) (t : List ℕ) → length (formAnswers p a (unpack formEntry n t)) ≡ n
+unfolding formAnswers
+forms-length p a n t = section-length formEntry (formAnswer p a) n t
+
+pub form-at : (p a n : ℕ) (t : List ℕ) (i : ℕ) → i < n → answerAt (formAnswers p a (unpack formEntry n t)) i ≡ formAnswer p a i (formRow t i)
+unfolding formAnswers
+form-at p a n t i h = section-at formEntry (formAnswer p a) n t i h ∙ ap (formAnswer p a i) (form-row t i)
+
+pub lines-length : (cs : List ℕ) (m n : ℕ) (t : List ℕ) → length (lineAnswers cs m (unpack lineEntry n t)) ≡ n
+unfolding lineAnswers
+lines-length cs m n t = section-length lineEntry (λ (i f : ℕ). answer (classRefusal policyIn cs m f) (clauseAt m i)) n t
+
+pub line-at : (cs : List ℕ) (m n : ℕ) (t : List ℕ) (i : ℕ) → i < n →
+    answerAt (lineAnswers cs m (unpack lineEntry n t)) i ≡ answer (classRefusal policyIn cs m (getD t i 0)) (clauseAt m i)
+unfolding lineAnswers
+line-at cs m n t i h =
+    section-at lineEntry (λ (j f : ℕ). answer (classRefusal policyIn cs m f) (clauseAt m j)) n t i h ∙
+    ap (λ (f : ℕ). answer (classRefusal policyIn cs m f) (clauseAt m i)) (number-at t 1 i 0 i (omega arith) (omega arith))
+
+abbrev pub stepRow : List ℕ → ℕ → Row
+stepRow t i = record { kind = getD t (2 * i) 0; left = getD t (2 * i + 1) 0; right = 0 }
+
+pub step-row : (t : List ℕ) (i : ℕ) → stepEntry .get (take 2 (drop (i * 2) t)) ≡ stepRow t i
+step-row t i =
+    λ j.
+    record {
+      kind = number-at t 2 i 0 (2 * i) (omega arith) (omega arith) j;
+      left = number-at t 2 i 1 (2 * i + 1) (omega arith) (omega arith) j;
+      right = 0;
+    }
+
+pub steps-length : (m l n : ℕ) (t : List ℕ) → length (stepAnswers m l (unpack stepEntry n t)) ≡ n
+unfolding stepAnswers
+steps-length m l n t = section-length stepEntry (λ (i : ℕ) (r : Row). answer (stepRefusal r) (stepAt m l (suc i))) n t
+
+pub step-at : (m l n : ℕ) (t : List ℕ) (i : ℕ) → i < n →
+    answerAt (stepAnswers m l (unpack stepEntry n t)) i ≡ answer (stepRefusal (stepRow t i)) (stepAt m l (suc i))
+unfolding stepAnswers
+step-at m l n t i h =
+    section-at stepEntry (λ (j : ℕ) (r : Row). answer (stepRefusal r) (stepAt m l (suc j))) n t i h ∙
+    ap (λ (r : Row). answer (stepRefusal r) (stepAt m l (suc i))) (step-row t i)
+
+-- A table's zeros, one entry more.
+pub zeros-more : (t : List ℕ) (i : ℕ) → i < length t → getD t i 0 ≡ 0 → allZero (drop i t) ≡ allZero (drop (i + 1) t)
+unfolding allZero
+zeros-more t i h e = rw (add-one, drop-cons t i 0) (rw e refl)
+
+pub zeros-stop : (t : List ℕ) (i : ℕ) → i < length t → (getD t i 0 ≡ 0 → ⊥) → allZero (drop i t) ≡ false
+unfolding allZero
+zeros-stop t i h e = rw (drop-cons t i 0) (rw (ne-eqb (getD t i 0) 0 e) refl)
+
+pub zeros-end : (t : List ℕ) (i : ℕ) → length t ≤ i → allZero (drop i t) ≡ true
+unfolding allZero
+zeros-end t i h = rw (drop-of-length-le t h) refl

@@ -1,0 +1,228 @@
+// The checks over counts and lent tables that writer and judge both make: 13; then 3, 4 or 5 at the line where the text would have it;
+// then 3 at place 0 for a nonzero entry past the counts. The first met is the answer.
+ghost use mathlib.Core.Path.{_≡_};
+ghost use mathlib.Core.List.{[], _∷_, _++_};
+ghost use lib.ListN.{length, getD, drop};
+ghost use Prim.Native.Nat.{suc};
+ghost use Rattle.scope.specs.Answer.{answer};
+ghost use Rattle.scope.specs.Limits.{clausesAt, clauseAt, goalAt, stepsAt, stepAt};
+ghost use Rattle.scope.specs.Refusals.{demand, clausesRefusal, stepRefusal};
+ghost use Rattle.scope.specs.Checked.{allZero, pastZero, checked};
+ghost use Rattle.scope.specs.Tables.{hasRoom, unpack, formEntry, lineEntry, stepEntry};
+ghost use Rattle.classes.specs.Class.{goalIn, policyIn};
+ghost use Rattle.tables.specs.Met.{checkedOf, met, lentWith};
+ghost use Rattle.tables.specs.Answers.{countAnswers, formAnswer, formAnswers, classRefusal, lineAnswers, goalAnswers, stepAnswers};
+ghost use Rattle.tables.specs.Refusals.{row};
+ghost use Rattle.tables.specs.Whole.{formPart, linePart, stepPart};
+
+mod rows;
+
+// The counts and the goal of a request whose tables are lent.
+pub struct Counts {
+    pub principals: u16,
+    pub atoms: u16,
+    pub formulas: u16,
+    pub lines: u16,
+    pub goal: u16,
+    pub steps: u16,
+}
+
+pub struct Refusal {
+    pub number: u16,
+    pub place: u32,
+}
+
+pub enum Checked {
+    Fine,
+    Refused(Refusal),
+}
+
+fn answer_at(number: u16, place: u32) -> Checked
+    ensures { λ r. ⌜ r ≡ checkedOf (answer number place) ⌝ }
+{
+    if number == 0 {
+        return Checked::Fine;
+    }
+    Checked::Refused(Refusal { number, place })
+}
+
+fn room_refusal(forms: usize, lines: usize, steps: usize) -> u16
+    ensures { λ r. ⌜ r ≡ demand (hasRoom forms lines steps) 13 0 ⌝ }
+{
+    if forms < 3072 {
+        return 13;
+    }
+    if lines < 128 {
+        return 13;
+    }
+    if steps < 4096 {
+        return 13;
+    }
+    0
+}
+
+fn check_counts(principals: u16, atoms: u16, formulas: u16) -> Checked
+    ensures { λ r. ⌜ r ≡ met (countAnswers principals atoms formulas) ⌝ }
+{
+    let first = answer_at(rows::count_refusal(1, 16, principals), 2);
+    let Checked::Fine = first else {
+        return first;
+    };
+    let second = answer_at(rows::count_refusal(1, 256, atoms), 3);
+    let Checked::Fine = second else {
+        return second;
+    };
+    answer_at(rows::count_refusal(1, 1024, formulas), 4)
+}
+
+// Formula number i by its three numbers.
+fn check_form(principals: u16, atoms: u16, i: u16, kind: u16, left: u16, right: u16) -> Checked
+    ensures { λ r. ⌜ r ≡ checkedOf (formAnswer principals atoms i (row kind left right)) ⌝ }
+{
+    let number = rows::form_refusal(principals, atoms, i, kind, left, right);
+    let place = 5 + i as u32;
+    answer_at(number, place)
+}
+
+fn check_forms(principals: u16, atoms: u16, count: u16, forms: &[u16]) -> Checked
+    ensures { λ r. ⌜ r ≡ met (formAnswers principals atoms (unpack formEntry count (now (forms .entry)))) ⌝ }
+{
+    let mut i: u16 = 0;
+    while i < count {
+        let at = 3 * (i as usize);
+        let kind = classes::entry_at(forms, at);
+        let left = classes::entry_at(forms, at + 1);
+        let right = classes::entry_at(forms, at + 2);
+        let form = check_form(principals, atoms, i, kind, left, right);
+        let Checked::Fine = form else {
+            return form;
+        };
+        i += 1;
+    }
+    Checked::Fine
+}
+
+fn check_lines(classes: &[u8], formulas: u16, count: u16, lines: &[u16]) -> Checked
+    ensures { λ r. ⌜ r ≡ met (lineAnswers (now (classes .entry)) formulas (unpack lineEntry count (now (lines .entry)))) ⌝ }
+{
+    let mut i: u16 = 0;
+    while i < count {
+        let number = rows::line_refusal(classes, formulas, classes::entry_at(lines, i as usize));
+        let place = 6 + formulas as u32 + i as u32;
+        let line = answer_at(number, place);
+        let Checked::Fine = line else {
+            return line;
+        };
+        i += 1;
+    }
+    Checked::Fine
+}
+
+fn check_steps(formulas: u16, lines: u16, count: u16, steps: &[u16]) -> Checked
+    ensures { λ r. ⌜ r ≡ met (stepAnswers formulas lines (unpack stepEntry count (now (steps .entry)))) ⌝ }
+{
+    let mut i: u16 = 0;
+    while i < count {
+        let at = 2 * (i as usize);
+        let number = rows::step_refusal(
+            classes::entry_at(steps, at),
+            classes::entry_at(steps, at + 1),
+        );
+        let place = 8 + formulas as u32 + lines as u32 + i as u32;
+        let step = answer_at(number, place);
+        let Checked::Fine = step else {
+            return step;
+        };
+        i += 1;
+    }
+    Checked::Fine
+}
+
+fn zero_from(table: &[u16], from: usize) -> bool
+    ensures { λ r. ⌜ r ≡ allZero (drop from (now (table .entry))) ⌝ }
+{
+    let mut i = from;
+    while i < table.len() {
+        if table[i] != 0 {
+            return false;
+        }
+        i += 1;
+    }
+    true
+}
+
+fn past_refusal(counts: Counts, forms: &[u16], lines: &[u16], steps: &[u16]) -> u16
+    ensures { λ r. ⌜ r ≡ demand (pastZero (lentWith counts (now (forms .entry)) (now (lines .entry)) (now (steps .entry)))) 3 0 ⌝ }
+{
+    let past_forms = 3 * (counts.formulas as usize);
+    let past_lines = counts.lines as usize;
+    let past_steps = 2 * (counts.steps as usize);
+    let steps_rest = rows::demand_of(zero_from(steps, past_steps), 3, 0);
+    let lines_rest = rows::demand_of(zero_from(lines, past_lines), 3, steps_rest);
+    rows::demand_of(zero_from(forms, past_forms), 3, lines_rest)
+}
+
+// The counts of principals, atoms and formulas, then the formulas.
+fn check_formulas(counts: Counts, forms: &[u16]) -> Checked
+    ensures { λ r. ⌜ r ≡ met (formPart (lentWith counts (now (forms .entry)) [] [])) ⌝ }
+{
+    let count = check_counts(counts.principals, counts.atoms, counts.formulas);
+    let Checked::Fine = count else {
+        return count;
+    };
+    check_forms(counts.principals, counts.atoms, counts.formulas, forms)
+}
+
+// The count of policy lines, then those lines.
+fn check_policy(counts: Counts, classes: &[u8], lines: &[u16]) -> Checked
+    ensures { λ r. ⌜ r ≡ met (linePart (lentWith counts [] (now (lines .entry)) []) (now (classes .entry))) ⌝ }
+{
+    let place = 5 + counts.formulas as u32;
+    let count = answer_at(rows::count_refusal(0, 128, counts.lines), place);
+    let Checked::Fine = count else {
+        return count;
+    };
+    check_lines(classes, counts.formulas, counts.lines, lines)
+}
+
+// The goal and the count of steps, then the steps.
+fn check_proof(counts: Counts, classes: &[u8], steps: &[u16]) -> Checked
+    ensures { λ r. ⌜ r ≡ met (stepPart (lentWith counts [] [] (now (steps .entry))) (now (classes .entry))) ⌝ }
+{
+    let place = 6 + counts.formulas as u32 + counts.lines as u32;
+    let goal = answer_at(
+        rows::goal_refusal(classes, counts.formulas, counts.goal),
+        place,
+    );
+    let Checked::Fine = goal else {
+        return goal;
+    };
+    let count = answer_at(rows::count_refusal(1, 2048, counts.steps), place + 1);
+    let Checked::Fine = count else {
+        return count;
+    };
+    check_steps(counts.formulas, counts.lines, counts.steps, steps)
+}
+
+pub fn check_tables(counts: Counts, forms: &[u16], lines: &[u16], steps: &[u16]) -> Checked
+    ensures { λ r. ⌜ r ≡ checkedOf (checked (lentWith counts (now (forms .entry)) (now (lines .entry)) (now (steps .entry)))) ⌝ }
+{
+    let room = answer_at(room_refusal(forms.len(), lines.len(), steps.len()), 0);
+    let Checked::Fine = room else {
+        return room;
+    };
+    let formulas = check_formulas(counts, forms);
+    let Checked::Fine = formulas else {
+        return formulas;
+    };
+    let classes = classes::classes_of(forms, counts.formulas);
+    let policy = check_policy(counts, &classes, lines);
+    let Checked::Fine = policy else {
+        return policy;
+    };
+    let proof = check_proof(counts, &classes, steps);
+    let Checked::Fine = proof else {
+        return proof;
+    };
+    answer_at(past_refusal(counts, forms, lines, steps), 0)
+}
