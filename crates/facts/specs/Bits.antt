@@ -1,0 +1,107 @@
+-- The laws of one bit of a row, each for any number of a row's width.
+use Prim.Native.Nat.{ℕ, suc, _+_, _^_, _/_, _%_, _-_, _<_}
+use mathlib.Core.Bool.{Bool, true, false}
+use mathlib.Core.Path.{_≡_, refl, sym}
+use mathlib.Core.Logic.{_⊎_, inl, inr, ⊎-elim}
+use native.Mathlib.Omega.{arith}
+use lib.Bits.{bitOr, or-step, or-shr}
+use lib.Dec.{eqb, ltb}
+use lib.Pow.{pow-pos, pow-lt, pow-add, shl-shr}
+use native.Mathlib.Nat.{div-eq-of-lt, div-self, mul-mod-left, pow-suc, eq-or-lt-of-le}
+use borrow.Author.Tests.{lt-ltb, ltb-true, eq-eqb, eqb-true, eqb-false}
+use Rattle.scope.specs.Form.{both}
+use Rattle.facts.specs.Fill.{below-or-past}
+use Rattle.facts.specs.Rows.{worldsMax, when, bitOf, oneBit}
+
+-- The bit itself, of a row of any width.
+pub record Bit (row i : ℕ) : Type 0 where
+  pub on : row / 2 ^ i % 2 ≡ 1
+
+both-true : (s t : Bool) → both s t ≡ true → (s ≡ true) × (t ≡ true)
+unfolding both
+both-true true t p = (refl, p)
+both-true false t p = let z : _≡_ {A = ℕ} 0 1 = cc in absurd (omega arith)
+
+pub bit-on : (row i : ℕ) → bitOf row i ≡ true → (i < worldsMax) × Bit row i
+unfolding bitOf
+bit-on row i p =
+    let h = both-true (ltb i worldsMax) (eqb (row / 2 ^ i % 2) 1) p in
+    (ltb-true i worldsMax (h .0), record { on = eqb-true (row / 2 ^ i % 2) 1 (h .1) })
+
+pub on-bit : {row i : ℕ} → i < worldsMax → Bit row i → bitOf row i ≡ true
+unfolding bitOf both
+on-bit {row} {i} h b = rw (lt-ltb i worldsMax h, eq-eqb (row / 2 ^ i % 2) 1 (b .on))
+
+or-left : (x y i : ℕ) → Bit x i → Bit (bitOr x y) i
+or-left x y i b = record { on = rw (or-shr x y i) (omega (arith, or-step (x / 2 ^ i) (y / 2 ^ i), b .on)) }
+
+or-right : (x y i : ℕ) → Bit y i → Bit (bitOr x y) i
+or-right x y i b = record { on = rw (or-shr x y i) (omega (arith, or-step (x / 2 ^ i) (y / 2 ^ i), b .on)) }
+
+or-either : (x y i : ℕ) → Bit (bitOr x y) i → Bit x i ⊎ Bit y i
+or-either x y i b = go (eqb (x / 2 ^ i % 2) 1) refl
+  where
+    sum : bitOr (x / 2 ^ i) (y / 2 ^ i) % 2 ≡ 1
+    sum = rw (or-shr x y i) at (b .on)
+
+    go : (t : Bool) → eqb (x / 2 ^ i % 2) 1 ≡ t → Bit x i ⊎ Bit y i
+    go true e = inl (record { on = eqb-true (x / 2 ^ i % 2) 1 e })
+    go false e =
+        inr
+        (record {
+          on = omega (arith, or-step (x / 2 ^ i) (y / 2 ^ i), sum, eqb-false (x / 2 ^ i % 2) 1 e);
+        })
+
+zero-none : (i : ℕ) → Bit 0 i → ⊥
+zero-none i b = omega (arith, div-eq-of-lt (pow-pos i), b .on)
+
+one-self : (i : ℕ) → Bit (2 ^ i) i
+one-self i = record { on = rw (div-self (pow-pos i)) refl }
+
+-- the power above the bit is even there, and the power below it is 0
+one-high : (d i : ℕ) → 2 ^ (suc d + i) / 2 ^ i % 2 ≡ 0
+one-high d i =
+    rw (pow-add 2 (suc d) i) (rw (shl-shr (2 ^ suc d) i) (rw (pow-suc 2 d) (mul-mod-left (2 ^ d) 2)))
+
+one-only : (n i : ℕ) → Bit (2 ^ n) i → i ≡ n
+one-only n i b = ⊎-elim low (λ h. ⊎-elim (λ e. sym e) high (eq-or-lt-of-le h)) (below-or-past i n)
+  where
+    low : i < n → i ≡ n
+    low h =
+        let sum : suc (n - suc i) + i ≡ n = omega arith in
+        let even : 2 ^ n / 2 ^ i % 2 ≡ 0 = rw sum at (one-high (n - suc i) i) in
+        absurd (omega (arith, b .on))
+
+    high : n < i → i ≡ n
+    high h = absurd (omega (arith, div-eq-of-lt (pow-lt h), b .on))
+
+-- The same of what the rows tell.
+pub told-left : (x y i : ℕ) → bitOf x i ≡ true → bitOf (bitOr x y) i ≡ true
+told-left x y i p = let h = bit-on x i p in on-bit (h .0) (or-left x y i (h .1))
+
+pub told-right : (x y i : ℕ) → bitOf y i ≡ true → bitOf (bitOr x y) i ≡ true
+told-right x y i p = let h = bit-on y i p in on-bit (h .0) (or-right x y i (h .1))
+
+pub told-either : (x y i : ℕ) → bitOf (bitOr x y) i ≡ true → (bitOf x i ≡ true) ⊎ (bitOf y i ≡ true)
+told-either x y i p =
+    let h = bit-on (bitOr x y) i p in
+    ⊎-elim (λ b. inl (on-bit (h .0) b)) (λ b. inr (on-bit (h .0) b)) (or-either x y i (h .1))
+
+pub told-none : (i : ℕ) → bitOf 0 i ≡ true → ⊥
+told-none i p = zero-none i (bit-on 0 i p .1)
+
+pub told-self : (i : ℕ) → i < worldsMax → bitOf (oneBit i) i ≡ true
+unfolding oneBit
+told-self i h = on-bit h (rw (lt-ltb i worldsMax h) (one-self i))
+
+pub told-only : (n i : ℕ) → bitOf (oneBit n) i ≡ true → i ≡ n
+unfolding oneBit
+told-only n i p = go (ltb n worldsMax) refl (bit-on (oneBit n) i p .1)
+  where
+    go : (t : Bool) → ltb n worldsMax ≡ t → Bit (when (ltb n worldsMax) (2 ^ n)) i → i ≡ n
+    go true e b = one-only n i (rw e at b)
+    go false e b = absurd (zero-none i (rw e at b))
+
+pub told-when : (t : Bool) (x i : ℕ) → bitOf (when t x) i ≡ true → (t ≡ true) × (bitOf x i ≡ true)
+told-when true x i p = (refl, p)
+told-when false x i p = absurd (told-none i p)

@@ -1,0 +1,106 @@
+-- The two theorems about a new world, `kept-le` and `kept-by`, each by the edge that leads to it, and that the rows of older worlds stand.
+use Prim.Native.Nat.{ℕ, suc, _<_, _≤_}
+use mathlib.Core.Bool.{true}
+use mathlib.Core.Path.{_≡_, refl, sym, _∙_}
+use mathlib.Core.List.{List, _∷_}
+use native.Mathlib.Omega.{arith}
+use lib.ListN.{getD}
+use Rattle.scope.specs.Facts.{Fact, le, by, sf, Closed, given, rule1, rule2, rule3, rule7, rule8, Among, here, closed}
+use Rattle.facts.specs.Rows.{worldsMax, leAt, upAt, bitOf, told, sfRows, seenRow, grownLe, grownBy}
+use Rattle.facts.specs.Bits.{told-none, told-when}
+use Rattle.facts.specs.Kept.{Way, stop, up-le, up-by, Kept, proper, saved-told, Agree}
+use Rattle.facts.specs.NewRows.{new-rows, new-agree}
+use Rattle.facts.specs.Closing.{way-sf, way-by, way-more, less, sees}
+use Rattle.facts.specs.NewKept.{closed-more, kept-new}
+
+-- A new world behind u by u ≤ n: what is ≤ u is ≤ n, and no S fact leads to n.
+pub kept-le : {n k u : ℕ} {fs : List Fact} {r : List ℕ} →
+    Kept n k fs r → u < n → n < worldsMax → Kept (suc n) k (le u n ∷ fs) (grownLe r u n)
+unfolding grownLe told
+kept-le {n} {k} {u} {fs} {r} K inside small =
+    kept-new {Less = λ x. Closed n k (Among fs) (le x u)} {Sees = λ a x. ⊥} K inside small
+    (new-rows r u n (getD r (leAt u) 0) (λ c. 0) (K .size) small)
+    (record {
+      leads = record {
+        less-way = λ x p. up-le p (stop inside);
+        sees-way = λ a x z. absurd z;
+        sees-sf = λ a b x z p. z;
+        le-sees = λ a x y p z. z;
+        le-less = λ x y p q. rule8 p q;
+        by-sees = λ a b x y p z. z;
+      };
+      given-proper = (omega arith, omega arith);
+      given-new = less refl (rule7 inside);
+      given-way = up-le edge (stop last);
+      less-closed = λ x p. rule8 (closed-more (le x u) p) edge;
+      sees-closed = λ a x z. absurd z;
+      less-right = λ x p. K .right (le x u) inside p;
+      less-whole = λ x c. K .whole (le x u) c;
+      sees-right = λ a x h p. told-none x p;
+      sees-whole = λ a x z. absurd z;
+    })
+  where
+    last : n < suc n
+    last = omega arith
+
+    edge : Closed (suc n) k (Among (le u n ∷ fs)) (le u n)
+    edge = given here
+
+-- A new world behind u by u S_a n: only n ≤ n, and from each world that leads to u each principal with u: c sf a sees n.
+pub kept-by : {n k a u : ℕ} {fs : List Fact} {r : List ℕ} →
+    Kept n k fs r → a < k → u < n → n < worldsMax → Kept (suc n) k (by a u n ∷ fs) (grownBy r a u n)
+unfolding grownBy
+kept-by {n} {k} {a} {u} {fs} {r} K who inside small =
+    kept-new {Less = λ x. ⊥} {Sees = λ c x. Way n (Closed n k (Among fs)) x u × Closed n k (Among fs) (sf u c a)} K inside small
+    (new-rows r u n 0 (seenRow r a u) (K .size) small)
+    (record {
+      leads = record {
+        less-way = λ x z. absurd z;
+        sees-way = λ c x p. p .0;
+        sees-sf = λ c d x p q. (p .0, rule3 (way-sf (closed n k (Among fs)) (p .0) q) (p .1));
+        le-sees = λ c x y p q. (up-le p (q .0), q .1);
+        le-less = λ x y p z. z;
+        by-sees = λ c d x y p q. (up-by p (q .0), q .1);
+      };
+      given-proper = (who, inside, omega arith);
+      given-new = sees refl (stop inside, rule1 inside who);
+      given-way = up-by edge (stop last);
+      less-closed = λ x z. absurd z;
+      sees-closed = λ c x p. way-by (closed (suc n) k (Among (by a u n ∷ fs))) (more (p .0)) (rule2 edge (closed-more (sf u c a) (p .1)));
+      less-right = λ x p. told-none x p;
+      less-whole = λ x z. absurd z;
+      sees-right = right;
+      sees-whole = whole;
+    })
+  where
+    last : n < suc n
+    last = omega arith
+
+    edge : Closed (suc n) k (Among (by a u n ∷ fs)) (by a u n)
+    edge = given here
+
+    more : {x : ℕ} → Way n (Closed n k (Among fs)) x u → Way (suc n) (Closed (suc n) k (Among (by a u n ∷ fs))) x u
+    more w = let h : n ≤ suc n = omega arith in way-more h (λ g c. closed-more g c) w
+
+    speaks : (c : ℕ) → c < k → bitOf (getD (sfRows r u) c 0) a ≡ told r (sf u c a)
+    speaks c h = saved-told r u c a (omega (arith, K .principals))
+
+    right : (c x : ℕ) → c < k → bitOf (seenRow r a u c) x ≡ true → Way n (Closed n k (Among fs)) x u × Closed n k (Among fs) (sf u c a)
+    right c x h p =
+        let t = told-when (bitOf (getD (sfRows r u) c 0) a) (getD r (upAt u) 0) x p in
+        (K .ways-right x u inside (t .1), K .right (sf u c a) (inside, h, who) (sym (speaks c h) ∙ t .0))
+
+    whole : (c x : ℕ) → Way n (Closed n k (Among fs)) x u × Closed n k (Among fs) (sf u c a) → (c < k) × (bitOf (seenRow r a u c) x ≡ true)
+    whole c x p =
+        let h : (u < n) × (c < k) × (a < k) = proper (K .made) (p .1) in
+        (h .1, rw (speaks c (h .1) ∙ K .whole (sf u c a) (p .1)) (K .ways-whole x u (p .0)))
+
+-- The rows of older worlds stand.
+pub agree-le : (n u w : ℕ) (r : List ℕ) → n ≤ w → Agree n r (grownLe r u w)
+unfolding grownLe
+agree-le n u w r h = new-agree r u w (getD r (leAt u) 0) (λ c. 0) n h
+
+pub agree-by : (n a u w : ℕ) (r : List ℕ) → n ≤ w → Agree n r (grownBy r a u w)
+unfolding grownBy
+agree-by n a u w r h =
+    new-agree r u w 0 (seenRow r a u) n h

@@ -1,0 +1,197 @@
+-- The rows hold exactly the closed facts of a sequent. `Kept` says so, `asked-le`, `asked-by` and `asked-sf` say it of each question, and
+-- `kept-back` of rows that a branch has written over.
+use Prim.Native.Nat.{ℕ, suc, _+_, _*_, _-_, _<_, _≤_}
+use mathlib.Core.Bool.{true}
+use mathlib.Core.Path.{_≡_, refl, sym, _∙_}
+use mathlib.Core.List.{List}
+use mathlib.Core.Logic.{⊎-elim, _↔_}
+use native.Mathlib.Omega.{arith}
+use native.Mathlib.Nat.{zero-add}
+use lib.ListN.{length, getD, replicate, length-replicate}
+use borrow.Author.Tests.{lt-ltb}
+use Rattle.scope.specs.Facts.{Fact, le, by, sf, Closed, Among, least}
+use Rattle.facts.specs.Fill.{fill, length-fill, fill-before, fill-at, below-or-past}
+use Rattle.facts.specs.Rows.{worldsMax, principalsMax, rowsEach, rowsMax, leAt, upAt, byAt, sfAt, bitOf, byRow, sfRow, told, sfRows, putSf}
+
+-- What each fact of n worlds and k principals is: its numbers are among theirs, and it leads from a world to a newer one.
+abbrev pub Proper : ℕ → ℕ → Fact → Type 0
+Proper n k (le u v) = (u ≤ v) × (v < n)
+Proper n k (by a u v) = (a < k) × (u < v) × (v < n)
+Proper n k (sf u a b) = (u < n) × (a < k) × (b < k)
+
+-- A fact about a world below n and principals below k, wherever it comes from.
+abbrev pub Aimed : ℕ → ℕ → Fact → Type 0
+Aimed n k (le u v) = v < n
+Aimed n k (by a u v) = (a < k) × (v < n)
+Aimed n k (sf u a b) = (u < n) × (a < k) × (b < k)
+
+-- A way of ≤ and S facts from world to world.
+pub data Way (n : ℕ) (H : Fact → Type 0) : ℕ → ℕ → Type 0 where
+  stop : {x : ℕ} → x < n → Way n H x x
+  up-le : {x y z : ℕ} → H (le x y) → Way n H y z → Way n H x z
+  up-by : {a x y z : ℕ} → H (by a x y) → Way n H y z → Way n H x z
+
+-- The rows hold exactly the facts that follow from fs, for n worlds and k principals.
+pub record Kept (n k : ℕ) (fs : List Fact) (r : List ℕ) : Type 0 where
+  pub rooted : 0 < n
+  pub worlds : n ≤ worldsMax
+  pub principals : k ≤ principalsMax
+  pub size : length r ≡ rowsMax
+  pub made : (f : Fact) → Among fs f → Proper n k f
+  pub right : (f : Fact) → Aimed n k f → told r f ≡ true → Closed n k (Among fs) f
+  pub whole : (f : Fact) → Closed n k (Among fs) f → told r f ≡ true
+  -- the row of ancestors, which the next world leans on
+  pub ways-right : (u v : ℕ) → v < n → bitOf (getD r (upAt v) 0) u ≡ true → Way n (Closed n k (Among fs)) u v
+  pub ways-whole : (u v : ℕ) → Way n (Closed n k (Among fs)) u v → bitOf (getD r (upAt v) 0) u ≡ true
+
+-- What follows from proper facts is proper.
+pub proper : {n k : ℕ} {base : Fact → Type 0} {f : Fact} →
+    ((g : Fact) → base g → Proper n k g) → Closed n k base f → Proper n k f
+proper {n} {k} b c =
+    least {H = Proper n k}
+    (record {
+      rule1 = λ u a p q. (p, q, q);
+      rule2 = λ u v a b p q. (q .1, p .1, p .2);
+      rule3 = λ u a b c p q. (p .0, p .1, q .2);
+      rule4 = λ u v a b c p q. (p .2, q .1, q .2);
+      rule5 = λ u v a b p q. (p .1, q .1, q .2);
+      rule6 = λ u v w a p q. (q .0, omega arith, q .2);
+      rule7 = λ u p. (omega arith, p);
+      rule8 = λ u v w p q. (omega arith, q .1);
+      rule9 = λ u v w a b p q. (q .0, omega arith, q .2);
+    })
+    b c
+
+-- A proper fact is one about those worlds and principals.
+pub aimed : (n k : ℕ) (f : Fact) → Proper n k f → Aimed n k f
+aimed n k (le u v) p = p .1
+aimed n k (by a u v) p = (p .0, p .2)
+aimed n k (sf u a b) p = p
+
+-- A way of proper facts keeps to the worlds.
+pub way-from : {n k : ℕ} {H : Fact → Type 0} {x y : ℕ} → ((g : Fact) → H g → Proper n k g) → Way n H x y → x < n
+way-from b (stop h) = h
+way-from b (up-le {x} {y} p w) = let q : (x ≤ y) × (y < _) = b (le x y) p in omega arith
+way-from b (up-by {a} {x} {y} p w) = let q : (a < _) × (x < y) × (y < _) = b (by a x y) p in omega arith
+
+pub way-to : {n : ℕ} {H : Fact → Type 0} {x y : ℕ} → Way n H x y → y < n
+way-to (stop h) = h
+way-to (up-le p w) = way-to w
+way-to (up-by p w) = way-to w
+
+-- Each question's answer is true exactly if the fact follows.
+module _ {n k : ℕ} {fs : List Fact} {r : List ℕ} (K : Kept n k fs r) where
+  pub asked-le : (u v : ℕ) → v < n → (told r (le u v) ≡ true) ↔ Closed n k (Among fs) (le u v)
+  asked-le u v h = (K .right (le u v) h, K .whole (le u v))
+
+  pub asked-by : (a u v : ℕ) → a < k → v < n → (told r (by a u v) ≡ true) ↔ Closed n k (Among fs) (by a u v)
+  asked-by a u v g h = (K .right (by a u v) (g, h), K .whole (by a u v))
+
+  pub asked-sf : (u a b : ℕ) → u < n → a < k → b < k →
+      (told r (sf u a b) ≡ true) ↔ Closed n k (Among fs) (sf u a b)
+  asked-sf u a b h g l = (K .right (sf u a b) (h, g, l), K .whole (sf u a b))
+
+-- Of a principal's number the test in its row is true.
+pub by-row : (r : List ℕ) (v a : ℕ) → a < principalsMax → byRow r v a ≡ getD r (byAt v + a) 0
+unfolding byRow
+by-row r v a h = rw (lt-ltb a principalsMax h)
+
+pub sf-row : (r : List ℕ) (v a : ℕ) → a < principalsMax → sfRow r v a ≡ getD r (sfAt v + a) 0
+unfolding sfRow
+sf-row r v a h = rw (lt-ltb a principalsMax h)
+
+-- Tables whose rows of the first n worlds are the same tell the same facts about those worlds.
+module _ (n k : ℕ) (r s : List ℕ) (few : k ≤ principalsMax)
+    (same : (i : ℕ) → i < n * rowsEach → getD s i 0 ≡ getD r i 0) where
+  pub told-same : (f : Fact) → Aimed n k f → told s f ≡ told r f
+  unfolding told
+  told-same (le u v) h = rw (same (leAt v) (omega arith))
+  told-same (by a u v) h =
+      let small : a < principalsMax = omega arith in
+      let low : byAt v + a < n * rowsEach = omega arith in
+      rw (by-row s v a small, by-row r v a small, same (byAt v + a) low)
+  told-same (sf u a b) h =
+      let small : a < principalsMax = omega arith in
+      let low : sfAt u + a < n * rowsEach = omega arith in
+      rw (sf-row s u a small, sf-row r u a small, same (sfAt u + a) low)
+
+-- and so keep the same facts.
+pub kept-same : {n k : ℕ} {fs : List Fact} {r s : List ℕ} → Kept n k fs r → length s ≡ length r →
+    ((i : ℕ) → i < n * rowsEach → getD s i 0 ≡ getD r i 0) → Kept n k fs s
+kept-same {n} {k} {fs} {r} {s} K l same =
+    record {
+      rooted = K .rooted;
+      worlds = K .worlds;
+      principals = K .principals;
+      size = l ∙ K .size;
+      made = K .made;
+      right = λ f h p. K .right f h (sym (told-same n k r s (K .principals) same f h) ∙ p);
+      whole = λ f c.
+          told-same n k r s (K .principals) same f (aimed n k f (proper (K .made) c)) ∙ K .whole f c;
+      ways-right = λ u v h p. K .ways-right u v h (rw (same (upAt v) (omega arith)) at p);
+      ways-whole = λ u v w.
+          let h : v < n = way-to w in
+          rw (same (upAt v) (omega arith)) (K .ways-whole u v w);
+    }
+
+-- Rows of worlds below n are the same, but for the rows of sf of the newest of them, which a saved copy gives back.
+pub record Agree (n : ℕ) (r s : List ℕ) : Type 0 where
+  pub same-length : length s ≡ length r
+  pub same-rows : (i : ℕ) → i + principalsMax < n * rowsEach → getD s i 0 ≡ getD r i 0
+
+pub agree-self : (n : ℕ) (r : List ℕ) → Agree n r r
+agree-self n r = record { same-length = refl; same-rows = λ i h. refl }
+
+pub agree-then : {n m : ℕ} {r s t : List ℕ} → n ≤ m → Agree n r s → Agree m s t → Agree n r t
+agree-then {n} {m} h a b =
+    record {
+      same-length = b .same-length ∙ a .same-length;
+      same-rows = λ i l. b .same-rows i (omega arith) ∙ a .same-rows i l;
+    }
+
+-- Rows of sf of the newest of them, or of a newer world, may be written over.
+pub agree-fill : (f : ℕ → ℕ) (n m : ℕ) (r : List ℕ) → n ≤ suc m → Agree n r (fill f (sfAt m) principalsMax r)
+agree-fill f n m r h =
+    record {
+      same-length = length-fill f (sfAt m) principalsMax r;
+      same-rows = λ i g. fill-before f (sfAt m) principalsMax r i (omega arith);
+    }
+
+pub agree-put : (n m : ℕ) (r s : List ℕ) → n ≤ suc m → Agree n r (putSf r m s)
+unfolding putSf
+agree-put n m r s h = agree-fill (λ c. getD s c 0) n m r h
+
+-- What was saved of world m is what stood there.
+pub saved-row : (r : List ℕ) (m c : ℕ) → c < principalsMax → getD (sfRows r m) c 0 ≡ getD r (sfAt m + c) 0
+unfolding sfRows
+saved-row r m c h =
+    rw zero-add at
+    (fill-at (λ i. getD r (sfAt m + i) 0) 0 principalsMax (replicate principalsMax 0) c h
+    (rw length-replicate (omega arith)))
+
+pub saved-told : (r : List ℕ) (m c b : ℕ) → c < principalsMax → bitOf (getD (sfRows r m) c 0) b ≡ told r (sf m c b)
+unfolding told
+saved-told r m c b h = rw (saved-row r m c h, sf-row r m c h)
+
+-- The saved rows of sf of the newest world, put back into a table that agrees, make the kept facts again.
+pub kept-back : {m k : ℕ} {fs : List Fact} {r s : List ℕ} →
+    Kept (suc m) k fs r → Agree (suc m) r s → Kept (suc m) k fs (putSf s m (sfRows r m))
+unfolding putSf
+kept-back {m} {k} {fs} {r} {s} K a = kept-same K (length-fill back (sfAt m) principalsMax s ∙ a .same-length) same
+  where
+    back : ℕ → ℕ
+    back c = getD (sfRows r m) c 0
+
+    room : sfAt m + principalsMax ≤ length s
+    room = omega (arith, K .worlds, K .size, a .same-length)
+
+    within : (c : ℕ) → c < principalsMax → getD (fill back (sfAt m) principalsMax s) (sfAt m + c) 0 ≡ getD r (sfAt m + c) 0
+    within c h = fill-at back (sfAt m) principalsMax s c h room ∙ saved-row r m c h
+
+    same : (i : ℕ) → i < suc m * rowsEach → getD (fill back (sfAt m) principalsMax s) i 0 ≡ getD r i 0
+    same i h =
+        ⊎-elim (λ low. fill-before back (sfAt m) principalsMax s i low ∙ a .same-rows i (omega arith))
+        (λ past.
+        let place : sfAt m + (i - sfAt m) ≡ i = omega arith in
+        rw place at (within (i - sfAt m) (omega arith)))
+        (below-or-past i (sfAt m))

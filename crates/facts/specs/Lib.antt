@@ -1,0 +1,10 @@
+pub mod Fill
+pub mod Rows
+pub mod Bits
+pub mod Kept
+pub mod Closing
+pub mod NewRows
+pub mod NewKept
+pub mod Grown
+pub mod Noted
+pub mod Root

@@ -1,0 +1,159 @@
+-- The theorem about a note, `kept-note`: only rows of sf of the newest world change, and they tell what `Noted` says.
+use Prim.Native.Nat.{ℕ, suc, _+_, _<_, _≤_}
+use mathlib.Core.Bool.{true}
+use mathlib.Core.Path.{_≡_, refl, sym, _∙_}
+use mathlib.Core.List.{List, _∷_}
+use mathlib.Core.Logic.{⊎-elim}
+use native.Mathlib.Omega.{arith}
+use native.Mathlib.Nat.{eq-or-lt-of-le}
+use lib.ListN.{getD}
+use Rattle.scope.specs.Facts.{Fact, le, by, sf, Closed, given, rule1, rule3, Among, here, there, closed, least}
+use Rattle.facts.specs.Fill.{fill, length-fill, fill-before, fill-at}
+use Rattle.facts.specs.Rows.{principalsMax, leAt, upAt, byAt, sfAt, when, bitOf, sfRow, told, sfRows, notedRow, noted}
+use Rattle.facts.specs.Bits.{told-left, told-right, told-either, told-when}
+use Rattle.facts.specs.Kept.{Proper, Aimed, Way, way-to, Kept, proper, aimed, by-row, sf-row, saved-told, Agree, agree-fill}
+use Rattle.facts.specs.Closing.{way-more, Noted, kept, note, noted-closed, noted-way}
+
+-- What follows still follows with one given fact more.
+pub closed-given : {n k : ℕ} {fs : List Fact} {e : Fact} (f : Fact) →
+    Closed n k (Among fs) f → Closed n k (Among (e ∷ fs)) f
+closed-given {n} {k} {fs} {e} f c = least (closed n k (Among (e ∷ fs))) (λ g p. given (there p)) c
+
+module _ {m k a b : ℕ} {fs : List Fact} {r : List ℕ} (K : Kept (suc m) k fs r) (ha : a < k) (hb : b < k) where
+  abbrev C : Fact → Type 0
+  C = Closed (suc m) k (Among fs)
+
+  abbrev D : Fact → Type 0
+  D = Closed (suc m) k (Among (sf m a b ∷ fs))
+
+  abbrev s : List ℕ
+  s = fill (notedRow r m a b) (sfAt m) principalsMax r
+
+  few : {c : ℕ} → c < k → c < principalsMax
+  few {c} h = omega (arith, K .principals)
+
+  last : m < suc m
+  last = omega arith
+
+  older : (i : ℕ) → i < sfAt m → getD s i 0 ≡ getD r i 0
+  older i h = fill-before (notedRow r m a b) (sfAt m) principalsMax r i h
+
+  -- what the rows tell of ≤ and S, of sf at older worlds, and of sf at m
+  at-le : (x v : ℕ) → v < suc m → told s (le x v) ≡ told r (le x v)
+  unfolding told
+  at-le x v h = rw (older (leAt v) (omega arith))
+
+  at-by : (c x v : ℕ) → c < k → v < suc m → told s (by c x v) ≡ told r (by c x v)
+  unfolding told
+  at-by c x v g h =
+      rw (by-row s v c (few g), by-row r v c (few g), older (byAt v + c) (omega (arith, few g)))
+
+  at-old : (v c d : ℕ) → c < k → v < m → told s (sf v c d) ≡ told r (sf v c d)
+  unfolding told
+  at-old v c d g h =
+      rw (sf-row s v c (few g), sf-row r v c (few g), older (sfAt v + c) (omega (arith, few g)))
+
+  at-new : (v c d : ℕ) → c < k → v ≡ m → told s (sf v c d) ≡ bitOf (notedRow r m a b c) d
+  unfolding told
+  at-new v c d g e =
+      rw (
+        sf-row s v c (few g),
+        e,
+        fill-at (notedRow r m a b) (sfAt m) principalsMax r c (few g) (omega (arith, K .worlds, K .size)),
+      )
+
+  at-up : (x v : ℕ) → v < suc m → bitOf (getD s (upAt v) 0) x ≡ bitOf (getD r (upAt v) 0) x
+  at-up x v h = rw (older (upAt v) (omega arith))
+
+  -- So what they tell is old or noted,
+  right-sf : (v c d : ℕ) → c < k → d < k → v ≡ m → told s (sf v c d) ≡ true → Noted m a b C (sf v c d)
+  unfolding told
+  right-sf v c d g h e p =
+      ⊎-elim
+      (λ t. kept (rw e (K .right (sf m c d) (last, g, h) (sym (saved-told r m c d (few g)) ∙ t))))
+      (λ t.
+      let w = told-when (bitOf (getD (sfRows r m) c 0) a) (sfRow r m b) d t in
+      note e (K .right (sf m c a) (last, g, ha) (sym (saved-told r m c a (few g)) ∙ w .0))
+      (K .right (sf m b d) (last, hb, h) (w .1)))
+      (told-either (getD (sfRows r m) c 0) (when (bitOf (getD (sfRows r m) c 0) a) (sfRow r m b)) d
+      (sym (at-new v c d g e) ∙ p))
+
+  told-noted : (g : Fact) → Aimed (suc m) k g → told s g ≡ true → Noted m a b C g
+  told-noted (le x v) h p = kept (K .right (le x v) h (sym (at-le x v h) ∙ p))
+  told-noted (by c x v) h p = kept (K .right (by c x v) h (sym (at-by c x v (h .0) (h .1)) ∙ p))
+  told-noted (sf v c d) h p =
+      ⊎-elim (λ e. right-sf v c d (h .1) (h .2) e p)
+      (λ l. kept (K .right (sf v c d) h (sym (at-old v c d (h .1) l) ∙ p)))
+      (eq-or-lt-of-le {n = v} {m = m} (omega arith))
+
+  -- and what is old or noted they tell.
+  whole-sf : (v c d : ℕ) → c < k → v ≡ m → C (sf v c d) → told s (sf v c d) ≡ true
+  whole-sf v c d g e p =
+      at-new v c d g e ∙
+      told-left (getD (sfRows r m) c 0) (when (bitOf (getD (sfRows r m) c 0) a) (sfRow r m b)) d
+      (saved-told r m c d (few g) ∙ K .whole (sf m c d) (rw e at p))
+
+  whole-note : (v c d : ℕ) → v ≡ m → C (sf m c a) → C (sf m b d) → told s (sf v c d) ≡ true
+  unfolding told
+  whole-note v c d e p q =
+      let h : (m < suc m) × (c < k) × (a < k) = proper (K .made) p in
+      at-new v c d (h .1) e ∙
+      told-right (getD (sfRows r m) c 0) (when (bitOf (getD (sfRows r m) c 0) a) (sfRow r m b)) d
+      (rw (saved-told r m c a (few (h .1)) ∙ K .whole (sf m c a) p) (K .whole (sf m b d) q))
+
+  noted-told : (g : Fact) → Noted m a b C g → told s g ≡ true
+  noted-told (le x v) (kept p) = at-le x v (aimed (suc m) k (le x v) (proper (K .made) p)) ∙ K .whole (le x v) p
+  noted-told (by c x v) (kept p) =
+      let h : (c < k) × (x < v) × (v < suc m) = proper (K .made) p in
+      at-by c x v (h .0) (h .2) ∙ K .whole (by c x v) p
+  noted-told (sf v c d) (kept p) =
+      let h : (v < suc m) × (c < k) × (d < k) = proper (K .made) p in
+      ⊎-elim (λ e. whole-sf v c d (h .1) e p) (λ l. at-old v c d (h .1) l ∙ K .whole (sf v c d) p)
+      (eq-or-lt-of-le {n = v} {m = m} (omega arith))
+  noted-told (sf v c d) (note e p q) = whole-note v c d e p q
+
+  -- What is old or noted follows, and what follows is old or noted.
+  noted-follows : (g : Fact) → Noted m a b C g → D g
+  noted-follows g (kept p) = closed-given g p
+  noted-follows (sf v c d) (note e p q) =
+      rw e (rule3 (closed-given (sf m c a) p) (rule3 (given here) (closed-given (sf m b d) q)))
+
+  given-is : (g : Fact) → Among (sf m a b ∷ fs) g → Noted m a b C g
+  given-is g here = note refl (rule1 last ha) (rule1 last hb)
+  given-is g (there p) = kept (given p)
+
+  given-proper : (g : Fact) → Among (sf m a b ∷ fs) g → Proper (suc m) k g
+  given-proper g here = (last, ha, hb)
+  given-proper g (there p) = K .made g p
+
+  follows-noted : (g : Fact) → D g → Noted m a b C g
+  follows-noted g c = least (noted-closed m k a b C (closed (suc m) k (Among fs)) (λ h. proper (K .made))) given-is c
+
+  way-back : {x v : ℕ} → Way (suc m) D x v → Way (suc m) C x v
+  way-back w =
+      let h : suc m ≤ suc m = omega arith in
+      noted-way m k a b C (closed (suc m) k (Among fs)) (λ g. proper (K .made)) (way-more h follows-noted w)
+
+-- A note at the newest world m.
+pub kept-note : {m k a b : ℕ} {fs : List Fact} {r : List ℕ} →
+    Kept (suc m) k fs r → a < k → b < k → Kept (suc m) k (sf m a b ∷ fs) (noted r m a b)
+unfolding noted
+kept-note {m} {k} {a} {b} {fs} {r} K ha hb =
+    record {
+      rooted = K .rooted;
+      worlds = K .worlds;
+      principals = K .principals;
+      size = length-fill (notedRow r m a b) (sfAt m) principalsMax r ∙ K .size;
+      made = given-proper K ha hb;
+      right = λ g h p. noted-follows K ha hb g (told-noted K ha hb g h p);
+      whole = λ g c. noted-told K ha hb g (follows-noted K ha hb g c);
+      ways-right = λ x v h p.
+          let same : suc m ≤ suc m = omega arith in
+          way-more same (λ g c. closed-given g c) (K .ways-right x v h (sym (at-up K ha hb x v h) ∙ p));
+      ways-whole = λ x v w. at-up K ha hb x v (way-to w) ∙ K .ways-whole x v (way-back K ha hb w);
+    }
+
+-- It writes over no row but those.
+pub agree-note : (n m a b : ℕ) (r : List ℕ) → n ≤ suc m → Agree n r (noted r m a b)
+unfolding noted
+agree-note n m a b r h = agree-fill (notedRow r m a b) n m r h

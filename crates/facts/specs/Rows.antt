@@ -1,0 +1,107 @@
+-- The closed facts of a sequent as rows of bits in one table, and what each function of this crate makes of a table. Every definition is
+-- total: a row past the table's end reads as 0 and is not written, and a number too large for a row's bits is in no row.
+use Prim.Native.Nat.{ℕ, _+_, _*_, _^_, _/_, _%_}
+use mathlib.Core.Bool.{Bool, true, false}
+use mathlib.Core.List.{List}
+use lib.ListN.{getD, set, replicate}
+use lib.Bits.{bitOr}
+use lib.Dec.{eqb, ltb}
+use Rattle.scope.specs.Form.{both}
+use Rattle.scope.specs.Facts.{Fact, le, by, sf}
+use Rattle.facts.specs.Fill.{fill}
+
+-- A row has a bit for each world; each world has one row of ≤, one of its ancestors, and one of S and one of sf for each principal.
+abbrev pub worldsMax : ℕ
+worldsMax = 32
+
+abbrev pub principalsMax : ℕ
+principalsMax = 16
+
+abbrev pub rowsEach : ℕ
+rowsEach = 34
+
+abbrev pub rowsMax : ℕ
+rowsMax = 1088
+
+abbrev pub rowAt : ℕ → ℕ → ℕ
+rowAt v part = v * rowsEach + part
+
+-- The rows that lead to world v: bit u of the first is u ≤ v; of the second, some way of ≤ and S facts from u to v;
+abbrev pub leAt : ℕ → ℕ
+leAt v = rowAt v 0
+
+abbrev pub upAt : ℕ → ℕ
+upAt v = rowAt v 1
+
+-- of the row of S of principal a, u S_a v; and bit b of the row of sf of principal a is v: a sf b.
+abbrev pub byAt : ℕ → ℕ
+byAt v = rowAt v 2
+
+abbrev pub sfAt : ℕ → ℕ
+sfAt v = rowAt v 18
+
+abbrev pub when : Bool → ℕ → ℕ
+when true x = x
+when false x = 0
+
+-- The bit of a number in a row, and the row with that bit alone.
+unfoldable pub bitOf : ℕ → ℕ → Bool
+unfolding both
+bitOf row i = both (ltb i worldsMax) (eqb (row / 2 ^ i % 2) 1)
+
+unfoldable pub oneBit : ℕ → ℕ
+oneBit i = when (ltb i worldsMax) (2 ^ i)
+
+-- The row of S, and the row of sf, of a principal: 0 for a number that no principal has.
+unfoldable pub byRow : List ℕ → ℕ → ℕ → ℕ
+byRow r v a = when (ltb a principalsMax) (getD r (byAt v + a) 0)
+
+unfoldable pub sfRow : List ℕ → ℕ → ℕ → ℕ
+sfRow r v a = when (ltb a principalsMax) (getD r (sfAt v + a) 0)
+
+-- What the rows tell of a fact.
+unfoldable pub told : List ℕ → Fact → Bool
+unfolding bitOf byRow sfRow
+told r (le u v) = bitOf (getD r (leAt v) 0) u
+told r (by a u v) = bitOf (byRow r v a) u
+told r (sf u a b) = bitOf (sfRow r u a) b
+
+-- The rows of sf of a world, and a table with such rows put back.
+unfoldable pub sfRows : List ℕ → ℕ → List ℕ
+sfRows r m = fill (λ c. getD r (sfAt m + c) 0) 0 principalsMax (replicate principalsMax 0)
+
+unfoldable pub putSf : List ℕ → ℕ → List ℕ → List ℕ
+putSf r m s = fill (λ c. getD s c 0) (sfAt m) principalsMax r
+
+-- World 0 alone: 0 ≤ 0, and c sf c there for every principal.
+unfoldable pub withRoot : List ℕ → List ℕ
+withRoot r = fill oneBit (sfAt 0) principalsMax (set (set r (leAt 0) 1) (upAt 0) 1)
+
+unfoldable pub rootRows : List ℕ
+rootRows = withRoot (replicate rowsMax 0)
+
+-- The first two rows of a new world n, and the rows of sf taken over from u.
+unfoldable pub newWorld : List ℕ → ℕ → ℕ → ℕ → List ℕ
+unfolding putSf sfRows oneBit
+newWorld r u n less =
+    putSf (set (set r (leAt n) (bitOr less (oneBit n))) (upAt n) (bitOr (getD r (upAt u) 0) (oneBit n))) n (sfRows r u)
+
+-- Behind u by u ≤ n: what is ≤ u is ≤ n, and no S fact leads to n.
+unfoldable pub grownLe : List ℕ → ℕ → ℕ → List ℕ
+unfolding newWorld
+grownLe r u n = fill (λ c. 0) (byAt n) principalsMax (newWorld r u n (getD r (leAt u) 0))
+
+-- Behind u by u S_a n: only n ≤ n; of principal c with u: c sf a, S leads to n from u and all before it.
+abbrev pub seenRow : List ℕ → ℕ → ℕ → ℕ → ℕ
+seenRow r a u c = when (bitOf (getD (sfRows r u) c 0) a) (getD r (upAt u) 0)
+
+unfoldable pub grownBy : List ℕ → ℕ → ℕ → ℕ → List ℕ
+unfolding newWorld
+grownBy r a u n = fill (seenRow r a u) (byAt n) principalsMax (newWorld r u n 0)
+
+-- a sf b noted at m: each row of sf that has a takes in the row of b.
+abbrev pub notedRow : List ℕ → ℕ → ℕ → ℕ → ℕ → ℕ
+notedRow r m a b c = bitOr (getD (sfRows r m) c 0) (when (bitOf (getD (sfRows r m) c 0) a) (sfRow r m b))
+
+unfoldable pub noted : List ℕ → ℕ → ℕ → ℕ → List ℕ
+noted r m a b = fill (notedRow r m a b) (sfAt m) principalsMax r

@@ -1,0 +1,211 @@
+// The closed facts of a sequent, kept in rows of bits that the caller lends. A new world writes its own rows only, and a note only the
+// rows of sf of its own world, so nothing is ever closed again, and a waiting obligation saves no more than the rows of sf of its newest world.
+ghost use mathlib.Core.Path.{_≡_};
+ghost use lib.ListN.{getD, set};
+ghost use Rattle.scope.specs.Facts.{le, by, sf};
+ghost use Rattle.facts.specs.Rows.{rowAt, when, bitOf, oneBit, byRow, sfRow, told};
+ghost use Rattle.facts.specs.Rows.{sfRows, putSf, rootRows, newWorld, grownLe, grownBy, noted};
+
+pub type Row = u32;
+
+pub const WORLDS: usize = 32;
+
+pub const PRINCIPALS: usize = 16;
+
+// The rows that lead to a world: one of ≤, one of its ancestors, PRINCIPALS of S, PRINCIPALS of sf.
+const EACH: usize = 34;
+
+const LE: u16 = 0;
+
+const UP: u16 = 1;
+
+const BY: u16 = 2;
+
+const SF: u16 = 18;
+
+pub const ROWS: usize = 1088;
+
+// The number of a world, and the number of a principal.
+pub struct World(pub u16);
+
+pub struct Principal(pub u16);
+
+// The place of one of the rows that lead to a world.
+fn place_of(v: World, part: u16) -> usize
+    ensures { λ r. ⌜ r ≡ rowAt (v .0) part ⌝ }
+{
+    (v.0 as usize) * EACH + part as usize
+}
+
+fn get_row(rows: &[Row], i: usize) -> Row
+    ensures { λ r. ⌜ r ≡ getD (now (rows .entry)) i 0 ⌝ }
+{
+    if i < rows.len() { rows[i] } else { 0 }
+}
+
+fn put_row(rows: &mut [Row], i: usize, x: Row)
+    ensures { λ _. ⌜ now (rows .exit) ≡ set (now (rows .entry)) i x ⌝ }
+{
+    if i < rows.len() {
+        rows[i] = x;
+    }
+}
+
+// The bit of a number in a row, and the row with that bit alone.
+fn bit_of(row: Row, i: usize) -> bool
+    ensures { λ r. ⌜ r ≡ bitOf row i ⌝ }
+{
+    if i < WORLDS {
+        (row >> i) % 2 == 1
+    } else {
+        false
+    }
+}
+
+fn one_bit(i: usize) -> Row
+    ensures { λ r. ⌜ r ≡ oneBit i ⌝ }
+{
+    if i < WORLDS { 1 << i } else { 0 }
+}
+
+fn row_if(t: bool, x: Row) -> Row
+    ensures { λ r. ⌜ r ≡ when t x ⌝ }
+{
+    if t { x } else { 0 }
+}
+
+fn by_row(rows: &[Row], v: World, a: Principal) -> Row
+    ensures { λ r. ⌜ r ≡ byRow (now (rows .entry)) (v .0) (a .0) ⌝ }
+{
+    let at = place_of(v, BY);
+    let c = a.0 as usize;
+    if c < PRINCIPALS {
+        get_row(rows, at + c)
+    } else {
+        0
+    }
+}
+
+fn sf_row(rows: &[Row], v: World, a: Principal) -> Row
+    ensures { λ r. ⌜ r ≡ sfRow (now (rows .entry)) (v .0) (a .0) ⌝ }
+{
+    let at = place_of(v, SF);
+    let c = a.0 as usize;
+    if c < PRINCIPALS {
+        get_row(rows, at + c)
+    } else {
+        0
+    }
+}
+
+pub fn has_le(rows: &[Row; ROWS], u: World, v: World) -> bool
+    ensures { λ r. ⌜ r ≡ told (now (rows .entry)) (le (u .0) (v .0)) ⌝ }
+{
+    let row = get_row(rows, place_of(v, LE));
+    bit_of(row, u.0 as usize)
+}
+
+pub fn has_by(rows: &[Row; ROWS], a: Principal, u: World, v: World) -> bool
+    ensures { λ r. ⌜ r ≡ told (now (rows .entry)) (by (a .0) (u .0) (v .0)) ⌝ }
+{
+    let row = by_row(rows, v, a);
+    bit_of(row, u.0 as usize)
+}
+
+pub fn has_sf(rows: &[Row; ROWS], u: World, a: Principal, b: Principal) -> bool
+    ensures { λ r. ⌜ r ≡ told (now (rows .entry)) (sf (u .0) (a .0) (b .0)) ⌝ }
+{
+    let row = sf_row(rows, u, a);
+    bit_of(row, b.0 as usize)
+}
+
+// What a waiting obligation saves of its newest world, and gives back.
+pub fn sf_rows(rows: &[Row; ROWS], m: World) -> [Row; PRINCIPALS]
+    ensures { λ r. ⌜ r ≡ sfRows (now (rows .entry)) (m .0) ⌝ }
+{
+    let at = place_of(m, SF);
+    let mut saved = [0; PRINCIPALS];
+    for c in 0..PRINCIPALS {
+        saved[c] = get_row(rows, at + c);
+    }
+    saved
+}
+
+pub fn put_sf(rows: &mut [Row; ROWS], m: World, saved: [Row; PRINCIPALS])
+    ensures { λ _. ⌜ now (rows .exit) ≡ putSf (now (rows .entry)) (m .0) saved ⌝ }
+{
+    let at = place_of(m, SF);
+    for c in 0..PRINCIPALS {
+        put_row(rows, at + c, saved[c]);
+    }
+}
+
+// World 0 alone.
+pub fn root_rows(rows: &mut [Row; ROWS])
+    ensures { λ _. ⌜ now (rows .exit) ≡ rootRows ⌝ }
+{
+    *rows = [0; ROWS];
+    let le = place_of(World(0), LE);
+    let up = place_of(World(0), UP);
+    let at = place_of(World(0), SF);
+    put_row(rows, le, 1);
+    put_row(rows, up, 1);
+    for c in 0..PRINCIPALS {
+        let own = one_bit(c);
+        put_row(rows, at + c, own);
+    }
+}
+
+fn new_world(rows: &mut [Row; ROWS], u: World, n: World, less: Row)
+    ensures { λ _. ⌜ now (rows .exit) ≡ newWorld (now (rows .entry)) (u .0) (n .0) less ⌝ }
+{
+    let own = one_bit(n.0 as usize);
+    let saved = sf_rows(rows, u);
+    let up = get_row(rows, place_of(u, UP));
+    put_row(rows, place_of(n, LE), less | own);
+    put_row(rows, place_of(n, UP), up | own);
+    put_sf(rows, n, saved);
+}
+
+// A new world n behind u by u ≤ n.
+pub fn grow_le(rows: &mut [Row; ROWS], u: World, n: World)
+    ensures { λ _. ⌜ now (rows .exit) ≡ grownLe (now (rows .entry)) (u .0) (n .0) ⌝ }
+{
+    let less = get_row(rows, place_of(u, LE));
+    new_world(rows, u, n, less);
+    let at = place_of(n, BY);
+    for c in 0..PRINCIPALS {
+        put_row(rows, at + c, 0);
+    }
+}
+
+// A new world n behind u by u S_a n.
+pub fn grow_by(rows: &mut [Row; ROWS], a: Principal, u: World, n: World)
+    ensures { λ _. ⌜ now (rows .exit) ≡ grownBy (now (rows .entry)) (a .0) (u .0) (n .0) ⌝ }
+{
+    let saved = sf_rows(rows, u);
+    let ways = get_row(rows, place_of(u, UP));
+    new_world(rows, u, n, 0);
+    let at = place_of(n, BY);
+    let who = a.0 as usize;
+    for c in 0..PRINCIPALS {
+        let speaks = bit_of(saved[c], who);
+        let row = row_if(speaks, ways);
+        put_row(rows, at + c, row);
+    }
+}
+
+// m: a sf b noted at the newest world m.
+pub fn add_note(rows: &mut [Row; ROWS], m: World, a: Principal, b: Principal)
+    ensures { λ _. ⌜ now (rows .exit) ≡ noted (now (rows .entry)) (m .0) (a .0) (b .0) ⌝ }
+{
+    let saved = sf_rows(rows, m);
+    let more = sf_row(rows, m, b);
+    let at = place_of(m, SF);
+    let first = a.0 as usize;
+    for c in 0..PRINCIPALS {
+        let speaks = bit_of(saved[c], first);
+        let row = saved[c] | row_if(speaks, more);
+        put_row(rows, at + c, row);
+    }
+}

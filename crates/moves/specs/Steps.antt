@@ -1,0 +1,117 @@
+-- What each of the eighteen steps comes to on the numbers of a formula's row, tests in the order of the refusals 7, 8, 9, 10.
+-- crate `judge` proves that these are document 01's steps (scope's `stepOn` and `within`).
+use Prim.Native.Nat.{ℕ}
+use mathlib.Core.Bool.{Bool, true, false}
+use mathlib.Core.List.{List}
+use lib.Dec.{eqb, leb}
+use Rattle.scope.specs.Facts as Fact
+use Rattle.facts.specs.Rows.{told}
+use Rattle.facts.specs.declared.World.{World}
+use Rattle.facts.specs.declared.Principal.{Principal}
+use Rattle.moves.specs.declared.Row.{Row}
+use Rattle.moves.specs.declared.Lab.{Lab}
+use Rattle.moves.specs.declared.Found.{Found}
+use Rattle.moves.specs.declared.Found.the-variants as found
+use Rattle.moves.specs.declared.Phase.the-variants as phase
+use Rattle.moves.specs.declared.Move.the-variants as move
+use Rattle.moves.specs.declared.Judged.{Judged}
+use Rattle.moves.specs.declared.Judged.the-variants.{Fits, No}
+
+-- Shut, so that its two laws fit.
+unfoldable pub pick : {A : Type 0} → Bool → A → A → A
+pick true x y = x
+pick false x y = y
+
+abbrev pub lab : ℕ → World → Lab
+lab f u = record { form = f; at = u }
+
+abbrev pub principal : ℕ → Principal
+principal a = record { 0 = a }
+
+-- Goal at u, no chunks, no focus.
+
+unfoldable pub andStep : Row → World → ℕ → Judged
+andStep r u opened =
+    pick (eqb (r .kind) 3) (pick (leb 256 opened) (No 10) (Fits (move.Both (lab (r .left) u) (lab (r .right) u)))) (No 7)
+
+unfoldable pub or1Step : Row → World → Judged
+or1Step r u = pick (eqb (r .kind) 4) (Fits (move.Go (phase.Goal (lab (r .left) u)))) (No 7)
+
+unfoldable pub or2Step : Row → World → Judged
+or2Step r u = pick (eqb (r .kind) 4) (Fits (move.Go (phase.Goal (lab (r .right) u)))) (No 7)
+
+unfoldable pub impStep : Row → ℕ → Judged
+impStep r worlds = pick (eqb (r .kind) 5) (pick (leb 32 worlds) (No 10) (Fits (move.Less (r .left) (r .right)))) (No 7)
+
+unfoldable pub saysStep : Row → ℕ → Judged
+saysStep r worlds =
+    pick (eqb (r .kind) 6) (pick (leb 32 worlds) (No 10) (Fits (move.Speak (principal (r .left)) (r .right)))) (No 7)
+
+unfoldable pub topStep : Row → Judged
+topStep r = pick (eqb (r .kind) 1) (Fits move.Close) (No 7)
+
+unfoldable pub sfStep : List ℕ → Row → World → Judged
+sfStep rows r u = pick (eqb (r .kind) 7) (pick (told rows (Fact.sf (u .0) (r .left) (r .right))) (Fits move.Close) (No 9)) (No 7)
+
+unfoldable pub ifFound : Found → (Lab → Judged) → Judged
+ifFound (found.At l) j = j l
+ifFound found.Nothing j = No 8
+
+unfoldable pub useStep : Row → Lab → Found → Judged
+useStep r target f = pick (eqb (r .kind) 0) (ifFound f (λ clause. Fits (move.Go (phase.Focus clause target)))) (No 7)
+
+-- In focus on a clause at u, aiming at an atom at w.
+
+unfoldable pub leftStep : Row → World → Lab → Judged
+leftStep r u target = pick (eqb (r .kind) 3) (Fits (move.Go (phase.Focus (lab (r .left) u) target))) (No 7)
+
+unfoldable pub rightStep : Row → World → Lab → Judged
+rightStep r u target = pick (eqb (r .kind) 3) (Fits (move.Go (phase.Focus (lab (r .right) u) target))) (No 7)
+
+unfoldable pub toImp : List ℕ → Row → World → World → Lab → ℕ → ℕ → Judged
+toImp rows r u v target worlds opened =
+    pick (leb worlds (v .0)) (No 8)
+    (pick (told rows (Fact.le (u .0) (v .0)))
+    (pick (leb 256 opened) (No 10) (Fits (move.Meet (lab (r .left) v) (phase.Focus (lab (r .right) v) target))))
+    (No 9))
+
+unfoldable pub toSays : List ℕ → Row → World → World → Lab → ℕ → Judged
+toSays rows r u v target worlds =
+    pick (leb worlds (v .0)) (No 8)
+    (pick (told rows (Fact.by (r .left) (u .0) (v .0))) (Fits (move.Go (phase.Focus (lab (r .right) v) target))) (No 9))
+
+unfoldable pub toStep : List ℕ → Row → World → World → Lab → ℕ → ℕ → Judged
+unfolding toImp toSays
+toStep rows r u v target worlds opened =
+    pick (eqb (r .kind) 5) (toImp rows r u v target worlds opened)
+    (pick (eqb (r .kind) 6) (toSays rows r u v target worlds) (No 7))
+
+unfoldable pub hitStep : List ℕ → Row → World → ℕ → World → Judged
+hitStep rows r u atom w =
+    pick (eqb (r .kind) 0)
+    (pick (eqb (r .left) atom) (pick (told rows (Fact.le (u .0) (w .0))) (Fits move.Close) (No 9)) (No 9))
+    (No 7)
+
+-- Chunks, the latest on top.
+
+unfoldable pub pushedKind : ℕ → Bool
+pushedKind kind = pick (eqb kind 0) true (pick (eqb kind 5) true (eqb kind 6))
+
+unfoldable pub pushStep : Row → ℕ → Judged
+unfolding pushedKind
+pushStep r clauses = pick (pushedKind (r .kind)) (pick (leb 256 clauses) (No 10) (Fits move.Push)) (No 7)
+
+unfoldable pub splitStep : Row → ℕ → Judged
+splitStep r count = pick (eqb (r .kind) 3) (pick (leb 16 count) (No 10) (Fits (move.Split (r .left) (r .right)))) (No 7)
+
+unfoldable pub caseStep : Row → ℕ → Judged
+caseStep r opened = pick (eqb (r .kind) 4) (pick (leb 256 opened) (No 10) (Fits (move.Case (r .left) (r .right)))) (No 7)
+
+unfoldable pub absurdStep : Row → Judged
+absurdStep r = pick (eqb (r .kind) 2) (Fits move.Close) (No 7)
+
+unfoldable pub dropStep : Row → Judged
+dropStep r = pick (eqb (r .kind) 1) (Fits move.Drop) (No 7)
+
+unfoldable pub noteStep : Row → Judged
+noteStep r = pick (eqb (r .kind) 7) (Fits (move.Note (principal (r .left)) (principal (r .right)))) (No 7)

@@ -1,0 +1,125 @@
+// In focus on a clause at u, aiming at an atom at w.
+ghost use mathlib.Core.Path.{_≡_};
+ghost use Rattle.moves.specs.Steps.{leftStep, rightStep, toImp, toSays, toStep, hitStep};
+use crate::Judged;
+use crate::Lab;
+use crate::Move;
+use crate::Phase;
+use crate::Row;
+use facts::Principal;
+use facts::ROWS;
+use facts::World;
+
+pub(crate) fn left_step(r: Row, u: World, target: Lab) -> Judged
+    ensures { λ j. ⌜ j ≡ leftStep r u target ⌝ }
+{
+    if r.kind != 3 {
+        return Judged::No(7);
+    }
+    let part = Lab {
+        form: r.left,
+        at: u,
+    };
+    Judged::Fits(Move::Go(Phase::Focus(part, target)))
+}
+
+pub(crate) fn right_step(r: Row, u: World, target: Lab) -> Judged
+    ensures { λ j. ⌜ j ≡ rightStep r u target ⌝ }
+{
+    if r.kind != 3 {
+        return Judged::No(7);
+    }
+    let part = Lab {
+        form: r.right,
+        at: u,
+    };
+    Judged::Fits(Move::Go(Phase::Focus(part, target)))
+}
+
+fn to_imp(
+    rows: &[u32; ROWS],
+    r: Row,
+    u: World,
+    v: World,
+    target: Lab,
+    worlds: u16,
+    opened: u16,
+) -> Judged
+    ensures { λ j. ⌜ j ≡ toImp (now (rows .entry)) r u v target worlds opened ⌝ }
+{
+    if v.0 < worlds {
+        let there = facts::has_le(rows, u, v);
+        if there {
+            if 256 <= opened {
+                return Judged::No(10);
+            }
+            let subgoal = Lab {
+                form: r.left,
+                at: v,
+            };
+            let part = Lab {
+                form: r.right,
+                at: v,
+            };
+            Judged::Fits(Move::Meet(subgoal, Phase::Focus(part, target)))
+        } else {
+            Judged::No(9)
+        }
+    } else {
+        Judged::No(8)
+    }
+}
+
+fn to_says(rows: &[u32; ROWS], r: Row, u: World, v: World, target: Lab, worlds: u16) -> Judged
+    ensures { λ j. ⌜ j ≡ toSays (now (rows .entry)) r u v target worlds ⌝ }
+{
+    if worlds <= v.0 {
+        return Judged::No(8);
+    }
+    let there = facts::has_by(rows, Principal(r.left), u, v);
+    if there {
+        let part = Lab {
+            form: r.right,
+            at: v,
+        };
+        return Judged::Fits(Move::Go(Phase::Focus(part, target)));
+    }
+    Judged::No(9)
+}
+
+pub(crate) fn to_step(
+    rows: &[u32; ROWS],
+    r: Row,
+    u: World,
+    v: World,
+    target: Lab,
+    worlds: u16,
+    opened: u16,
+) -> Judged
+    ensures { λ j. ⌜ j ≡ toStep (now (rows .entry)) r u v target worlds opened ⌝ }
+{
+    if r.kind == 5 {
+        return to_imp(rows, r, u, v, target, worlds, opened);
+    }
+    if r.kind == 6 {
+        return to_says(rows, r, u, v, target, worlds);
+    }
+    Judged::No(7)
+}
+
+// The target's atom by its number: two formulas may be the same atom.
+pub(crate) fn hit_step(rows: &[u32; ROWS], r: Row, u: World, atom: u16, w: World) -> Judged
+    ensures { λ j. ⌜ j ≡ hitStep (now (rows .entry)) r u atom w ⌝ }
+{
+    if r.kind != 0 {
+        return Judged::No(7);
+    }
+    if r.left != atom {
+        return Judged::No(9);
+    }
+    let there = facts::has_le(rows, u, w);
+    if there {
+        return Judged::Fits(Move::Close);
+    }
+    Judged::No(9)
+}

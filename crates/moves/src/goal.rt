@@ -1,0 +1,116 @@
+// Goal at u, no chunks, no focus.
+ghost use mathlib.Core.Path.{_≡_};
+ghost use Rattle.moves.specs.Steps.{andStep, or1Step, or2Step, impStep, saysStep, topStep, sfStep, useStep};
+use crate::Found;
+use crate::Judged;
+use crate::Lab;
+use crate::Move;
+use crate::Phase;
+use crate::Row;
+use facts::Principal;
+use facts::ROWS;
+use facts::World;
+
+pub(crate) fn and_step(r: Row, u: World, opened: u16) -> Judged
+    ensures { λ j. ⌜ j ≡ andStep r u opened ⌝ }
+{
+    if r.kind != 3 {
+        return Judged::No(7);
+    }
+    if 256 <= opened {
+        return Judged::No(10);
+    }
+    let first = Lab {
+        form: r.left,
+        at: u,
+    };
+    let second = Lab {
+        form: r.right,
+        at: u,
+    };
+    Judged::Fits(Move::Both(first, second))
+}
+
+pub(crate) fn or1_step(r: Row, u: World) -> Judged
+    ensures { λ j. ⌜ j ≡ or1Step r u ⌝ }
+{
+    if r.kind != 4 {
+        return Judged::No(7);
+    }
+    let part = Lab {
+        form: r.left,
+        at: u,
+    };
+    Judged::Fits(Move::Go(Phase::Goal(part)))
+}
+
+pub(crate) fn or2_step(r: Row, u: World) -> Judged
+    ensures { λ j. ⌜ j ≡ or2Step r u ⌝ }
+{
+    if r.kind != 4 {
+        return Judged::No(7);
+    }
+    let part = Lab {
+        form: r.right,
+        at: u,
+    };
+    Judged::Fits(Move::Go(Phase::Goal(part)))
+}
+
+pub(crate) fn imp_step(r: Row, worlds: u16) -> Judged
+    ensures { λ j. ⌜ j ≡ impStep r worlds ⌝ }
+{
+    if r.kind != 5 {
+        return Judged::No(7);
+    }
+    if 32 <= worlds {
+        return Judged::No(10);
+    }
+    Judged::Fits(Move::Less(r.left, r.right))
+}
+
+pub(crate) fn says_step(r: Row, worlds: u16) -> Judged
+    ensures { λ j. ⌜ j ≡ saysStep r worlds ⌝ }
+{
+    if r.kind != 6 {
+        return Judged::No(7);
+    }
+    if 32 <= worlds {
+        return Judged::No(10);
+    }
+    Judged::Fits(Move::Speak(Principal(r.left), r.right))
+}
+
+pub(crate) fn top_step(r: Row) -> Judged
+    ensures { λ j. ⌜ j ≡ topStep r ⌝ }
+{
+    if r.kind != 1 {
+        return Judged::No(7);
+    }
+    Judged::Fits(Move::Close)
+}
+
+pub(crate) fn sf_step(rows: &[u32; ROWS], r: Row, u: World) -> Judged
+    ensures { λ j. ⌜ j ≡ sfStep (now (rows .entry)) r u ⌝ }
+{
+    if r.kind != 7 {
+        return Judged::No(7);
+    }
+    let there = facts::has_sf(rows, u, Principal(r.left), Principal(r.right));
+    if there {
+        return Judged::Fits(Move::Close);
+    }
+    Judged::No(9)
+}
+
+pub(crate) fn use_step(r: Row, target: Lab, found: Found) -> Judged
+    ensures { λ j. ⌜ j ≡ useStep r target found ⌝ }
+{
+    if r.kind != 0 {
+        return Judged::No(7);
+    }
+    let Found::At(clause) = found else {
+        return Judged::No(8);
+    };
+    Judged::Fits(Move::Go(Phase::Focus(clause, target)))
+}

@@ -1,0 +1,88 @@
+// The eighteen steps, each judged on small values: the phase of the current obligation, the row of its formula, the facts, the counts.
+use facts::Principal;
+use facts::World;
+
+mod chunk;
+mod focus;
+mod goal;
+pub mod judging;
+
+// The number of a clause: never that of a world.
+pub struct Clause(pub u16);
+
+// A step is one of eighteen kinds, two of which carry a number.
+pub enum Step {
+    And,
+    Or1,
+    Or2,
+    Imp,
+    Says,
+    Top,
+    Sf,
+    Use(Clause),
+    Left,
+    Right,
+    To(World),
+    Hit,
+    Push,
+    Split,
+    Case,
+    Absurd,
+    Drop,
+    Note,
+}
+
+// A row of the formula table.
+pub struct Row {
+    pub kind: u16,
+    pub left: u16,
+    pub right: u16,
+}
+
+// A formula, by its number, at a world.
+pub struct Lab {
+    pub form: u16,
+    pub at: World,
+}
+
+// A goal; a goal behind a number of chunks; a focus on a part of a clause, aiming at a target, which is an atom.
+pub enum Phase {
+    Goal(Lab),
+    Chunks(Lab, u16),
+    Focus(Lab, Lab),
+}
+
+// What a step that fits does to the current obligation.
+pub enum Move {
+    // It is closed.
+    Close,
+    // It goes on in this phase.
+    Go(Phase),
+    // Two goals take its place, the first one first.
+    Both(Lab, Lab),
+    // A subgoal is met, and the focus goes on.
+    Meet(Lab, Phase),
+    // A new world behind the goal's by ≤, where the first formula is a chunk and the second the goal.
+    Less(u16, u16),
+    // A new world behind the goal's by S of the principal, where the formula is the goal.
+    Speak(Principal, u16),
+    // The topmost chunk is pushed as a clause, or dropped, or noted.
+    Push,
+    Drop,
+    Note(Principal, Principal),
+    // The topmost chunk gives way to two, the first on top.
+    Split(u16, u16),
+    // Two branches, with the first formula and with the second in the topmost chunk's place.
+    Case(u16, u16),
+}
+
+pub enum Judged {
+    Fits(Move),
+    No(u16),
+}
+
+// A clause to use, or none of that number.
+pub enum Found {
+    At(Lab),
+    Nothing,
+}

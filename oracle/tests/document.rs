@@ -1,0 +1,29 @@
+//! Document 01's own cases.
+
+use oracle::generate::{document, Text};
+use oracle::{gate_by, Way};
+
+fn check(texts: &[Text]) {
+    for text in texts {
+        for way in [Way::Kept, Way::Afresh] {
+            assert_eq!(Some(gate_by(way, &text.bytes)), text.want, "{} {way:?}", text.name);
+        }
+    }
+}
+
+#[test]
+fn p1_to_p12() {
+    let texts = document::numbered();
+    assert_eq!(texts.len(), 12);
+    check(&texts);
+}
+
+#[test]
+fn further_cases() {
+    check(&document::further());
+}
+
+#[test]
+fn p1_cut_after_every_byte() {
+    check(&document::cuts());
+}
