@@ -37,6 +37,7 @@ fn place_of(v: World, part: u16) -> usize
     (v.0 as usize) * EACH + part as usize
 }
 
+// A row past the end reads as 0, and is not written.
 fn get_row(rows: &[Row], i: usize) -> Row
     ensures { λ r. ⌜ r ≡ getD (now (rows .entry)) i 0 ⌝ }
 {
@@ -68,12 +69,14 @@ fn one_bit(i: usize) -> Row
     if i < WORLDS { 1 << i } else { 0 }
 }
 
+// The row, or the row of no bits.
 fn row_if(t: bool, x: Row) -> Row
     ensures { λ r. ⌜ r ≡ when t x ⌝ }
 {
     if t { x } else { 0 }
 }
 
+// The row of S, and the row of sf, of a principal: no bits for a number that no principal has.
 fn by_row(rows: &[Row], v: World, a: Principal) -> Row
     ensures { λ r. ⌜ r ≡ byRow (now (rows .entry)) (v .0) (a .0) ⌝ }
 {
@@ -98,6 +101,7 @@ fn sf_row(rows: &[Row], v: World, a: Principal) -> Row
     }
 }
 
+// Is u ≤ v, u S_a v, u: a sf b among the closed facts?
 pub fn has_le(rows: &[Row; ROWS], u: World, v: World) -> bool
     ensures { λ r. ⌜ r ≡ told (now (rows .entry)) (le (u .0) (v .0)) ⌝ }
 {
@@ -156,6 +160,7 @@ pub fn root_rows(rows: &mut [Row; ROWS])
     }
 }
 
+// The first two rows of a new world n behind u, where `less` has the worlds that are ≤ n by it, and the rows of sf, which are those of u.
 fn new_world(rows: &mut [Row; ROWS], u: World, n: World, less: Row)
     ensures { λ _. ⌜ now (rows .exit) ≡ newWorld (now (rows .entry)) (u .0) (n .0) less ⌝ }
 {
