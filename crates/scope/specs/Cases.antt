@@ -1,5 +1,4 @@
 -- Cases P1 to P12 of document 01, as whole texts through reading and judging to what the gate prints: answer, place, steps read.
-use Prim.Native.Nat.{ℕ}
 use Prim.Native.String.{String}
 use mathlib.Core.Path.{_≡_, refl}
 use mathlib.Core.List.{List, [], _∷_, map}

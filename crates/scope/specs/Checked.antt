@@ -50,7 +50,7 @@ unfolding both
 allZero [] = true
 allZero (n ∷ ns) = both (eqb n 0) (allZero ns)
 
--- No entry past the counts, anywhere in the lent length.
+-- No nonzero entry past the counts, anywhere in the lent length.
 unfoldable pub pastZero : Lent → Bool
 unfolding both allZero
 pastZero t =

@@ -29,6 +29,11 @@ pub record Rules (n k : ℕ) (H : Fact → Type 0) : Type 0 where
   -- 9. u S_B v with v S_A w gives u S_A w
   pub rule9 : (u v w a b : ℕ) → H (by b u v) → H (by a v w) → H (by a u w)
 
+-- A list of facts as a base.
+pub data Among : List Fact → Fact → Type 0 where
+  here : {f : Fact} {fs : List Fact} → Among (f ∷ fs) f
+  there : {f g : Fact} {fs : List Fact} → Among fs f → Among (g ∷ fs) f
+
 -- The facts that follow from a base: the base's own, and what the nine rules give. They hold nothing else (least such set).
 pub data Closed (n k : ℕ) (base : Fact → Type 0) : Fact → Type 0 where
   given : {f : Fact} → base f → Closed n k base f
@@ -42,12 +47,7 @@ pub data Closed (n k : ℕ) (base : Fact → Type 0) : Fact → Type 0 where
   rule8 : {u v w : ℕ} → Closed n k base (le u v) → Closed n k base (le v w) → Closed n k base (le u w)
   rule9 : {u v w a b : ℕ} → Closed n k base (by b u v) → Closed n k base (by a v w) → Closed n k base (by a u w)
 
--- A list of facts as a base.
-pub data Among : List Fact → Fact → Type 0 where
-  here : {f : Fact} {fs : List Fact} → Among (f ∷ fs) f
-  there : {f g : Fact} {fs : List Fact} → Among fs f → Among (g ∷ fs) f
-
--- It is closed under the rules,
+-- `Closed` is closed under the rules,
 pub closed : (n k : ℕ) (base : Fact → Type 0) → Rules n k (Closed n k base)
 closed n k base =
     record {

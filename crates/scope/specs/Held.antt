@@ -11,7 +11,7 @@ use Rattle.scope.specs.Facts.{Fact, le, by, sf}
 pub data Edge : Type 0 where
   edge : ℕ → ℕ → Edge
 
--- A path of one edge or more, and a way, which may be empty. The newest edge e is passed, or else the path is one of the older edges.
+-- A path of one edge or more, and a way, which may be empty. The newest edge is passed, or else the path is one of the older edges.
 unfoldable pub path : List Edge → ℕ → ℕ → Bool
 unfolding both either
 path [] x y = false

@@ -3,7 +3,7 @@ use Prim.Native.Nat.{ℕ, zero, suc, _*_}
 use mathlib.Core.List.{List, [], _∷_, map}
 use lib.ListN.{length}
 use Rattle.scope.specs.Form.{Form}
-use Rattle.scope.specs.Request.{Row, Request, formula}
+use Rattle.scope.specs.Request.{Request, formula}
 use Rattle.scope.specs.Answer.{Answer, answer}
 use Rattle.scope.specs.Limits.{mostFormulas, mostPolicyLines, mostSteps}
 use Rattle.scope.specs.Obligation.{Obligation, Step, stepOf, start}

@@ -28,3 +28,4 @@ pub mod Calls
 pub mod Judge
 pub mod Models
 pub mod Cases
+pub mod Bounds

@@ -1,4 +1,4 @@
--- 'What the numbers count': the table of what is allowed, as far as it concerns the file; and the lines of the file, counted from 1.
+-- 'What the numbers count': the table of what is allowed; and the lines of the file, counted from 1.
 use Prim.Native.Nat.{ℕ, _+_}
 
 abbrev pub mostBytes : ℕ
@@ -18,6 +18,22 @@ mostPolicyLines = 128
 
 abbrev pub mostSteps : ℕ
 mostSteps = 2048
+
+-- worlds of a sequent, root included
+abbrev pub mostWorlds : ℕ
+mostWorlds = 32
+
+-- clauses of a sequent, policy lines included
+abbrev pub mostClauses : ℕ
+mostClauses = 256
+
+-- open obligations: current, waiting, and subgoals met
+abbrev pub mostOpen : ℕ
+mostOpen = 256
+
+-- chunks of an obligation
+abbrev pub mostChunks : ℕ
+mostChunks = 16
 
 -- '`use` takes a clause number, `to` a world number, each 0 to 65,535.'
 abbrev pub mostStepNumber : ℕ

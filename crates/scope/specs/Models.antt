@@ -1,4 +1,4 @@
--- Finite Kripke models as Definition 1 of document 000 has them, with any number of worlds, and satisfaction as its Definition 2 has it.
+-- The finite ones among the Kripke models of Definition 1 of document 000, with any number of worlds, and satisfaction as its Definition 2 has it.
 use Prim.Native.Nat.{ℕ, _<_}
 use mathlib.Core.Path.{_≡_}
 use mathlib.Core.Bool.{Bool, true}

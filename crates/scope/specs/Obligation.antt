@@ -1,7 +1,7 @@
 -- Sequents, obligations and the eighteen kinds of step.
-use Prim.Native.Nat.{ℕ, suc, _+_}
+use Prim.Native.Nat.{ℕ, suc}
 use mathlib.Core.List.{List, [], _∷_, _++_, map}
-use lib.ListN.{length, getD}
+use lib.ListN.{getD}
 use Rattle.scope.specs.Form as F
 use Rattle.scope.specs.Form.{Form}
 use Rattle.scope.specs.Facts.{Fact, sf}

@@ -1,8 +1,8 @@
 -- What a request says: the counts, the rows of numbers that its lines give, and the formulas that the rows mean.
-use Prim.Native.Nat.{ℕ, suc, _+_}
+use Prim.Native.Nat.{ℕ}
 use mathlib.Core.List.{List, [], _∷_, _++_}
 use mathlib.Core.Bool.{Bool}
-use lib.ListN.{length, getD}
+use lib.ListN.{getD}
 use Rattle.scope.specs.Form.{Form, atom, top, bot, and, or, imp, says, sf, isGoal, isPolicy}
 
 -- A `form=` or `step=` line by its numbers: the kind, then its operands, 0 where the kind lacks one. A step's second operand is 0.

@@ -5,23 +5,8 @@ use mathlib.Core.List.{List, [], _∷_}
 use lib.ListN.{length}
 use lib.Dec.{leb}
 use Rattle.scope.specs.Form.{both}
+use Rattle.scope.specs.Limits.{mostWorlds, mostClauses, mostOpen, mostChunks}
 use Rattle.scope.specs.Obligation.{Phase, goal, chunks, focus, Obligation}
-
--- worlds of a sequent, root included
-abbrev pub mostWorlds : ℕ
-mostWorlds = 32
-
--- clauses of a sequent, policy lines included
-abbrev pub mostClauses : ℕ
-mostClauses = 256
-
--- open obligations: current, waiting, and subgoals met
-abbrev pub mostOpen : ℕ
-mostOpen = 256
-
--- chunks of an obligation
-abbrev pub mostChunks : ℕ
-mostChunks = 16
 
 unfoldable pub chunkCount : Phase → ℕ
 chunkCount (goal g) = 0

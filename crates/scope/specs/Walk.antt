@@ -1,5 +1,5 @@
 -- The answers about steps, computed: 'steps in order, 11 first, else 7, 8, 9, 10; then 12'.
-use Prim.Native.Nat.{ℕ, suc, _+_}
+use Prim.Native.Nat.{ℕ, suc}
 use mathlib.Core.Bool.{Bool, true, false}
 use mathlib.Core.List.{List, [], _∷_, _++_, map}
 use mathlib.Core.Option.{Option, some, none}
