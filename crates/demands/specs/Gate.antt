@@ -15,13 +15,12 @@ use Rattle.scope.specs.Derivation.{Derivation}
 use Rattle.scope.specs.Room.{within}
 use Rattle.scope.specs.Judge.{policyOf, goalOf, stepsOf, startOf, stepsAnswer, else, judge, Printed, prints, printed, judged, gate}
 use Rattle.scope.specs.Models.{Entailed}
-use Rattle.granted.specs.Reasons.{Settled, grants, breaks}
-use Rattle.granted.specs.FirstBreak.{break-range}
+use Rattle.granted.specs.Reasons.{Settled, grants}
 use native.Mathlib.Omega.{arith}
 use Rattle.trip.specs.Requests.{read-sound}
 use Rattle.trip.specs.Trip.{got, read-fine, fine-checked}
 use Rattle.demands.specs.Firm.{reading-firm}
-use Rattle.demands.specs.Judged.{steps-settled, granted-settled, steps-entail, judge-law, else-passes}
+use Rattle.demands.specs.Judged.{steps-settled, zero-granted, steps-entail, judge-law, else-passes}
 
 -- The gate reads into tables of just the room that is asked for.
 abbrev pub gateReads : List ℕ → Outcome
@@ -75,14 +74,6 @@ pub record Granting (s : List ℕ) (q : Request) : Type 0 where
 -- Demand 2: granted exactly then.
 pub gate-grants : (s : List ℕ) (q : Request) → Granting s q → gate s ≡ prints 0 0 (length (q .steps))
 gate-grants s q g = prints-gate s (prints 0 0 (length (q .steps))) (answered (g .reads) (grants (g .derives)))
-
-zero-granted : (q : Request) (a : Answer) (r : ℕ) → Settled within (startOf q) (stepsOf q) a → a ≡ answer 0 r →
-    Derivation within (startOf q) (stepsOf q)
-zero-granted q a r (grants d) e = d
-zero-granted q a r (breaks {k = k} b) e =
-    let z : k ≡ 0 = cc in
-    let h = break-range b in
-    absurd (omega arith)
 
 granting : (s : List ℕ) (p : Printed) (place n : ℕ) → Prints s p → p ≡ prints 0 place n → (q : Request) × Granting s q × (length (q .steps) ≡ n)
 granting s (prints k place′ zero) place n (unread e) z =

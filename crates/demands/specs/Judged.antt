@@ -3,6 +3,7 @@
 use Prim.Native.Nat.{ℕ, zero, suc, _<_}
 use mathlib.Core.Path.{_≡_, refl, sym, _∙_}
 use mathlib.Core.Logic.{_↔_}
+use native.Mathlib.Omega.{arith}
 use Rattle.scope.specs.Answer.{Answer, answer}
 use Rattle.scope.specs.Request.{Request, formula}
 use Rattle.scope.specs.Tables.{Lent, requestOf}
@@ -11,9 +12,9 @@ use Rattle.scope.specs.Derivation.{Derivation}
 use Rattle.scope.specs.Room.{within}
 use Rattle.scope.specs.Judge.{policyOf, goalOf, stepsOf, startOf, stepsAnswer, else, judge}
 use Rattle.scope.specs.Models.{Model, Frame, Sat, SatAll, Entailed}
-use Rattle.granted.specs.Reasons.{Settled, grants}
+use Rattle.granted.specs.Reasons.{Settled, grants, breaks}
 use Rattle.granted.specs.Granted.{granted}
-use Rattle.granted.specs.FirstBreak.{settled}
+use Rattle.granted.specs.FirstBreak.{settled, break-range}
 use Rattle.sound.specs.Rows.{request-sound}
 use Rattle.trip.specs.Tests.{never}
 use Rattle.trip.specs.File.{Sound}
@@ -25,10 +26,14 @@ pub steps-settled : (q : Request) (a : Answer) → stepsAnswer q ≡ a ↔ Settl
 unfolding stepsAnswer
 steps-settled q a = settled within (startOf q) (stepsOf q) a
 
--- Settled as granted is derived.
-pub granted-settled : (q : Request) → Settled within (startOf q) (stepsOf q) (answer 0 0) → Derivation within (startOf q) (stepsOf q)
-unfolding stepsAnswer
-granted-settled q s = granted within (startOf q) (stepsOf q) .0 (steps-settled q (answer 0 0) .1 s)
+-- Settled with number 0 is derived: no break has it.
+pub zero-granted : (q : Request) (a : Answer) (r : ℕ) → Settled within (startOf q) (stepsOf q) a → a ≡ answer 0 r →
+    Derivation within (startOf q) (stepsOf q)
+zero-granted q a r (grants d) e = d
+zero-granted q a r (breaks {k = k} b) e =
+    let z : k ≡ 0 = cc in
+    let h = break-range b in
+    absurd (omega arith)
 
 -- Granted steps of a request without refusal: in every model, at each world where every policy line holds, the goal holds.
 pub steps-entail : (q : Request) → Sound q → stepsAnswer q ≡ answer 0 0 → Entailed (q .principals) (q .atoms) (policyOf q) (goalOf q)
@@ -47,7 +52,7 @@ pub judge-law : (t : Lent) → judge t ≡ else (checked t) (stepsAnswer (reques
 unfolding judge
 judge-law t = refl
 
-else-refused : (k place : ℕ) (b : Answer) → else (answer (suc k) place) b ≡ answer (suc k) place
+pub else-refused : (k place : ℕ) (b : Answer) → else (answer (suc k) place) b ≡ answer (suc k) place
 unfolding else
 else-refused k place b = refl
 
@@ -79,14 +84,15 @@ pub record Grants (t : Lent) : Type 0 where
   pub fine : checked t ≡ answer 0 0
   pub derives : Derivation within (startOf (requestOf t)) (stepsOf (requestOf t))
 
+-- An answer with number 0 is allowed only there.
+pub allowed-grants : (t : Lent) (a : Answer) (r : ℕ) → a ≡ answer 0 r → Answers t a → Grants t
+allowed-grants t (answer (suc k) place) r e (by-tables c) = never cc
+allowed-grants t a r e (by-steps c s) = record { fine = c; derives = zero-granted (requestOf t) a r s e }
+
 -- Demand 2: granted exactly then.
 pub judge-grants : (t : Lent) → judge t ≡ answer 0 0 ↔ Grants t
-judge-grants t = (λ e. go (judge t) e (judge-allowed t), back)
+judge-grants t = (λ e. allowed-grants t (judge t) 0 e (judge-allowed t), back)
   where
-    go : (a : Answer) → a ≡ answer 0 0 → Answers t a → Grants t
-    go (answer (suc k) place) e (by-tables c) = never cc
-    go a e (by-steps c s) = record { fine = c; derives = granted-settled (requestOf t) (rw e at s) }
-
     back : Grants t → judge t ≡ answer 0 0
     back g = allowed-judge t (answer 0 0) (by-steps (g .fine) (grants (g .derives)))
 

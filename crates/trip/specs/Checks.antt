@@ -2,11 +2,11 @@
 use Prim.Native.Nat.{ℕ, zero, suc}
 use mathlib.Core.Path.{_≡_, refl, _∙_}
 use mathlib.Core.List.{List, [], _∷_, _++_}
-use native.Mathlib.Omega.{arith}
 use lib.ListN.{length}
 use Rattle.scope.specs.Answer.{Answer, answer}
 use Rattle.scope.specs.Request.{Request}
 use Rattle.scope.specs.Checked.{firstMet, eachOf, lineAnswers}
+use Rattle.trip.specs.Tests.{never}
 use Rattle.trip.specs.Several.{Two, two, Each, none-left, one-more}
 use Rattle.trip.specs.File.{Sound}
 
@@ -18,9 +18,7 @@ nothing-met = refl
 pub met-first : (k place : ℕ) (more : List Answer) → firstMet (answer k place ∷ more) ≡ answer 0 0 → Two (k ≡ 0) (firstMet more ≡ answer 0 0)
 unfolding firstMet
 met-first zero place more e = two refl e
-met-first (suc k) place more e =
-    let z : suc k ≡ 0 = cc in
-    absurd (omega arith)
+met-first (suc k) place more e = never cc
 
 pub passes : (k place : ℕ) (more : List Answer) → k ≡ 0 → firstMet (answer k place ∷ more) ≡ firstMet more
 unfolding firstMet
@@ -30,26 +28,20 @@ pub met-apart : (xs ys : List Answer) → firstMet (xs ++ ys) ≡ answer 0 0 →
 unfolding firstMet
 met-apart [] ys e = two refl e
 met-apart (answer zero p ∷ xs) ys e = met-apart xs ys e
-met-apart (answer (suc k) p ∷ xs) ys e =
-    let z : suc k ≡ 0 = cc in
-    absurd (omega arith)
+met-apart (answer (suc k) p ∷ xs) ys e = never cc
 
 pub passes-all : (xs ys : List Answer) → firstMet xs ≡ answer 0 0 → firstMet (xs ++ ys) ≡ firstMet ys
 unfolding firstMet
 passes-all [] ys e = refl
 passes-all (answer zero p ∷ xs) ys e = passes-all xs ys e
-passes-all (answer (suc k) p ∷ xs) ys e =
-    let z : suc k ≡ 0 = cc in
-    absurd (omega arith)
+passes-all (answer (suc k) p ∷ xs) ys e = never cc
 
 -- Where no refusal is met, the place is 0.
 pub met-nothing : (xs : List Answer) (place : ℕ) → firstMet xs ≡ answer 0 place → firstMet xs ≡ answer 0 0
 unfolding firstMet
 met-nothing [] place e = refl
 met-nothing (answer zero p ∷ xs) place e = met-nothing xs place e
-met-nothing (answer (suc k) p ∷ xs) place e =
-    let z : suc k ≡ 0 = cc in
-    absurd (omega arith)
+met-nothing (answer (suc k) p ∷ xs) place e = never cc
 
 module _ {A : Type 0} (refusal : List A → A → ℕ) (place : List A → ℕ) where
   each-met :

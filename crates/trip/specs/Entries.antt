@@ -17,7 +17,8 @@ use Rattle.scope.specs.Checked.{allZero, pastZero}
 use Rattle.scope.specs.Turns.{unpack-length}
 use Rattle.trip.specs.Tests.{both-true, both-met}
 use Rattle.trip.specs.Words.{everyKind, every-at}
-use Rattle.trip.specs.Small.{row-passed, count-passed}
+use Rattle.trip.specs.RowRanges.{row-passed}
+use Rattle.trip.specs.Small.{count-passed}
 use Rattle.trip.specs.Several.{Each}
 use Rattle.trip.specs.Several as Several
 use Rattle.trip.specs.File.{Sound}
@@ -75,7 +76,7 @@ second-zero (o ∷ p ∷ os) l r h e = absurd (omega arith)
 step-right : (r : Row) → stepRefusal r ≡ 0 → r .right ≡ 0
 unfolding stepRefusal single
 step-right r e =
-    let p = row-passed stepKinds 0 0 0 r e in
+    let p = row-passed 0 0 0 stepKinds r e in
     let os = kindIn stepKinds (r .kind) .operands in
     second-zero os (r .left) (r .right) (leb-true (length os) 1 (every-at single stepKinds (r .kind) steps-single (p .known))) (p .lacking)
 

@@ -3,24 +3,21 @@ use Prim.Native.Nat.{ℕ, suc, _+_, _<_, _≤_}
 use Prim.Native.String.{String}
 use mathlib.Core.Path.{_≡_, refl, ap}
 use mathlib.Core.List.{List, []}
-use mathlib.Core.Bool.{Bool, true}
+use mathlib.Core.Bool.{true}
 use native.Mathlib.Omega.{arith}
-use lib.Dec.{ltb}
 use lib.ListN.{length}
-use borrow.Author.Tests.{ltb-true}
 use Rattle.scope.specs.Bytes.{bytes, joined}
-use Rattle.scope.specs.Request.{Row, Request, policyClass, goalClass}
+use Rattle.scope.specs.Request.{Row, Request}
 use Rattle.scope.specs.Line.{line, lineText}
 use Rattle.scope.specs.Kinds.{Kind, formKinds, stepKinds, rowShape}
-use Rattle.scope.specs.Refusals.{demand, countRefusal, principalsRefusal, atomsRefusal, formulasRefusal, formRefusal, clausesRefusal, clauseRefusal, goalRefusal, stepsRefusal, stepRefusal}
+use Rattle.scope.specs.Refusals.{countRefusal, principalsRefusal, atomsRefusal, formulasRefusal, formRefusal, clausesRefusal, clauseRefusal, goalRefusal, stepsRefusal, stepRefusal}
 use Rattle.scope.specs.Text.{numberShape, numberLine, formulasLine, formLine, clausesLine, clauseLine, goalLine, stepsLine, stepLine, requestText}
 use Rattle.scope.specs.Reader.{formItem, clauseItem, stepItem, requestLines}
-use Rattle.trip.specs.Tests.{demand-met}
 use Rattle.trip.specs.Numbers.{number-there, number-back}
 use Rattle.trip.specs.Cuts.{free, numeral-free}
 use Rattle.trip.specs.Words.{Neat, form-kinds-neat, step-kinds-neat}
 use Rattle.trip.specs.Rows.{Sayable, row-there, row-back, row-clean}
-use Rattle.trip.specs.Small.{count-passed, row-sayable}
+use Rattle.trip.specs.Small.{count-passed, clause-named, goal-named, row-sayable}
 use Rattle.trip.specs.Reads.{Shaped, Reads, line-reads}
 use Rattle.trip.specs.Several.{two, Each, seq-reads, done-reads, counted-reads, reads-as}
 
@@ -78,21 +75,18 @@ step-reads f c before h =
     (record { principals-small = omega arith; atoms-small = omega arith; number-small = omega arith })
     e)
 
-below : (t : Bool) (forms : List Row) (f : ℕ) → length forms ≤ 1024 → demand (ltb f (length forms)) 3 (demand t 5 0) ≡ 0 → f < 100000
-below t forms f h e = omega (arith, ltb-true f (length forms) (demand-met (ltb f (length forms)) 2 (demand t 5 0) e .0))
-
 clause-reads :
     (forms : List Row) → length forms ≤ 1024 → (before : List ℕ) → length before < 128
     → Reads (clauseItem forms before) (lineText clauseLine) (λ f. clauseRefusal forms f ≡ 0)
 unfolding clauseRefusal free
 clause-reads forms h before l =
     number-reads "clause=" (clauseRefusal forms) (6 + length forms + length before) refl
-    (λ f e. below (policyClass forms f) forms f h e)
+    (λ f e. omega (arith, clause-named forms f e))
 
 goal-reads :
     (forms : List Row) (i : ℕ) → length forms ≤ 1024 → Reads (line goalLine (goalRefusal forms) i) (lineText goalLine) (λ f. goalRefusal forms f ≡ 0)
 unfolding goalRefusal free
-goal-reads forms i h = number-reads "goal=" (goalRefusal forms) i refl (λ f e. below (goalClass forms f) forms f h e)
+goal-reads forms i h = number-reads "goal=" (goalRefusal forms) i refl (λ f e. omega (arith, goal-named forms f e))
 
 most : (least high n : ℕ) → countRefusal least high n ≡ 0 → n ≤ high
 most least high n e = count-passed least high n e .high

@@ -16,7 +16,8 @@ use Rattle.scope.specs.Kinds.{Kind, kindIn, spaced, operandsOf, rowText, formKi
 use Rattle.scope.specs.Refusals.{formRefusal, stepRefusal}
 use Rattle.scope.specs.Text.{versionLine, principalsLine, atomsLine, formulasLine, formLine, clausesLine, clauseLine, goalLine, stepsLine, stepLine, requestText}
 use Rattle.trip.specs.Words.{everyKind, every-at}
-use Rattle.trip.specs.Small.{row-passed, count-passed}
+use Rattle.trip.specs.RowRanges.{row-passed}
+use Rattle.trip.specs.Small.{count-passed}
 use Rattle.trip.specs.Several.{Each, none-left, one-more}
 use Rattle.trip.specs.File.{Sound}
 
@@ -105,11 +106,11 @@ counted-fits l it m xs h fits e =
 form-fits : (principals atoms : ℕ) (before : List Row) (r : Row) → formRefusal principals atoms before r ≡ 0 → length (lineText formLine r) ≤ 22
 unfolding formRefusal
 form-fits np na before r e =
-    line-fits formLine r 16 (row-fits formKinds 16 r forms-short (row-passed formKinds np na (length before) r e .known))
+    line-fits formLine r 16 (row-fits formKinds 16 r forms-short (row-passed np na (length before) formKinds r e .known))
 
 step-fits : (before : List Row) (r : Row) → stepRefusal r ≡ 0 → length (lineText stepLine r) ≤ 15
 unfolding stepRefusal
-step-fits before r e = line-fits stepLine r 9 (row-fits stepKinds 9 r steps-short (row-passed stepKinds 0 0 0 r e .known))
+step-fits before r e = line-fits stepLine r 9 (row-fits stepKinds 9 r steps-short (row-passed 0 0 0 stepKinds r e .known))
 
 -- The ten kinds of lines, each with the largest numbers.
 pub text-fits : (q : Request) → Sound q → length (requestText q) ≤ 65536

@@ -3,6 +3,7 @@ pub mod Numbers
 pub mod Cuts
 pub mod Words
 pub mod Rows
+pub mod RowRanges
 pub mod Small
 pub mod Reads
 pub mod Several

@@ -1,9 +1,9 @@
 -- Readers one after the other, several of one kind, and a count with that many: each keeps the laws of `Reads`.
 use Prim.Native.Nat.{ℕ, zero, suc, _+_, _<_, _≤_}
 use mathlib.Core.Path.{_≡_, refl, sym, ap, _∙_}
-use mathlib.Core.List.{List, [], _∷_, _++_, append-assoc}
+use mathlib.Core.List.{List, [], _∷_, _++_, append-assoc, append-nil}
 use native.Mathlib.Omega.{arith}
-use lib.ListN.{length, length-append}
+use lib.ListN.{length, take, getD, length-append}
 use Rattle.scope.specs.Line.{Line, Read, ok, bad, Reader, line, lineText, after, _>>=_, done, many, manyText, counted, countedText}
 use Rattle.trip.specs.Tests.{never}
 use Rattle.trip.specs.Reads.{Reads}
@@ -77,6 +77,13 @@ pub each-map :
     → Each H n before xs
 each-map f none-left = none-left
 each-map f (one-more {before = b} {x = x} g e) = one-more (f b x g) (each-map f e)
+
+pub each-at :
+    {A : Type 0} {Good : List A → A → Type 0} {n : ℕ} {before xs : List A} → Each Good n before xs → (d : A) (i : ℕ) → i < n
+    → Good (before ++ take i xs) (getD xs i d)
+each-at none-left d i h = absurd (omega arith)
+each-at (one-more g e) d zero h = rw append-nil g
+each-at (one-more g e) d (suc i) h = rw append-assoc at (each-at e d i (omega arith))
 
 module _
     {A : Type 0} (item : List A → Reader A) (text : A → List ℕ) (Good : List A → A → Type 0) (most : ℕ)

@@ -1,0 +1,52 @@
+-- The judge's answer by its two parts: a refusal of the checks is the answer, and else what the walk answers.
+use Prim.Native.Nat.{ℕ, zero, suc}
+use mathlib.Core.Path.{_≡_, refl, sym, ap, _∙_}
+use native.Mathlib.Omega.{arith}
+use Rattle.scope.specs.Answer as S
+use Rattle.scope.specs.Answer.{answer}
+use Rattle.scope.specs.Tables.{Lent, requestOf}
+use Rattle.scope.specs.Checked.{checked}
+use Rattle.scope.specs.Judge.{stepsAnswer, judge, else}
+use Rattle.tables.specs.declared.Checked.{Checked}
+use Rattle.tables.specs.declared.Checked.the-variants.{Fine, Refused}
+use Rattle.tables.specs.declared.Refusal.{Refusal}
+use Rattle.tables.specs.Met.{checkedOf}
+use Rattle.machine.specs.declared.Walked.{Walked}
+use Rattle.machine.specs.declared.Walked.the-variants as walked
+use Rattle.machine.specs.Machine.{ran}
+use Rattle.trip.specs.Tests.{never}
+use Rattle.trip.specs.Trip.{unmet}
+use Rattle.walks.specs.Ran.{walkedAnswer}
+use Rattle.walks.specs.Simulation.{ran-walks}
+use Rattle.demands.specs.Judged.{judge-law, else-passes, else-refused}
+use Rattle.judge.specs.Answers.{answerOf, refusalAnswer, walkedTo}
+
+pub checks-refuse : (t : Lent) (r : Refusal) → checkedOf (checked t) ≡ Refused r → refusalAnswer (Refused r) ≡ answerOf (judge t)
+unfolding refusalAnswer answerOf checkedOf
+checks-refuse t r e = go (checked t) refl e
+  where
+    go : (a : S.Answer) → checked t ≡ a → checkedOf a ≡ Refused r → refusalAnswer (Refused r) ≡ answerOf (judge t)
+    go (answer zero p) c d = never cc
+    go (answer (suc k) p) c d =
+        let j : judge t ≡ answer (suc k) p = judge-law t ∙ ap (λ a. else a (stepsAnswer (requestOf t))) c ∙ else-refused k p (stepsAnswer (requestOf t)) in
+        rw j (ap refusalAnswer (sym d))
+
+fine-zero : (t : Lent) → checkedOf (checked t) ≡ Fine → checked t ≡ answer 0 0
+unfolding checkedOf
+fine-zero t e = go (checked t) refl e
+  where
+    go : (a : S.Answer) → checked t ≡ a → checkedOf a ≡ Fine → checked t ≡ answer 0 0
+    go (answer zero p) c d = unmet t p c
+    go (answer (suc k) p) c d = never cc
+
+walked-is : (w : Walked) → walkedTo w ≡ answerOf (walkedAnswer w)
+unfolding walkedTo answerOf walkedAnswer
+walked-is walked.Granted = refl
+walked-is (walked.Refused r) = refl
+
+pub walk-answers : (t : Lent) → checkedOf (checked t) ≡ Fine →
+    walkedTo (ran (t .formTable) (t .lineTable) (t .stepTable) (t .lines) (t .goal) (t .steps)) ≡ answerOf (judge t)
+walk-answers t e =
+    let c = fine-zero t e in
+    let j : judge t ≡ stepsAnswer (requestOf t) = judge-law t ∙ ap (λ a. else a (stepsAnswer (requestOf t))) c ∙ else-passes 0 (stepsAnswer (requestOf t)) in
+    walked-is _ ∙ ap answerOf (ran-walks t c ∙ sym j)

@@ -1,0 +1,29 @@
+-- What a caller may conclude from the judge's answer: refusal 0 exactly where tables and counts pass and the steps are a derivation within the
+-- limits; and then the goal holds in every finite model, at each world where the policy holds.
+use Prim.Native.Nat.{ℕ}
+use mathlib.Core.Path.{_≡_, refl, sym, ap, _∙_}
+use Rattle.scope.specs.Answer as S
+use Rattle.scope.specs.Answer.{answer}
+use Rattle.scope.specs.Tables.{Lent, requestOf}
+use Rattle.scope.specs.Judge.{policyOf, goalOf, judge}
+use Rattle.scope.specs.Models.{Entailed}
+use Rattle.demands.specs.Judged.{Grants, judge-allowed, allowed-grants, judge-grants, judge-entails}
+use Rattle.judge.specs.declared.Answer.{Answer}
+use Rattle.judge.specs.Answers.{answerOf}
+
+zero-allowed : (t : Lent) (a : S.Answer) → judge t ≡ a → answerOf a .refusal ≡ 0 → Grants t
+unfolding answerOf
+zero-allowed t (answer k place) e z = allowed-grants t (answer k place) place (ap (λ n. answer n place) z) (rw e at (judge-allowed t))
+
+pub refusal-zero : (t : Lent) (r : Answer) → r ≡ answerOf (judge t) → r .refusal ≡ 0 → Grants t
+refusal-zero t r e z = zero-allowed t (judge t) refl (sym (ap (λ a. a .refusal) e) ∙ z)
+
+pub grants-zero : (t : Lent) (r : Answer) → r ≡ answerOf (judge t) → Grants t → (r .refusal ≡ 0) × (r .place ≡ 0)
+unfolding answerOf
+grants-zero t r e g =
+    let h = e ∙ ap answerOf (judge-grants t .1 g) in
+    (ap (λ a. a .refusal) h, ap (λ a. a .place) h)
+
+pub zero-entails : (t : Lent) (r : Answer) → r ≡ answerOf (judge t) → r .refusal ≡ 0 →
+    Entailed (t .principals) (t .atoms) (policyOf (requestOf t)) (goalOf (requestOf t))
+zero-entails t r e z = judge-entails t (judge-grants t .1 (refusal-zero t r e z))

@@ -1,0 +1,56 @@
+// The judge: the checks over tables and counts, and then the answers about steps. It writes nowhere.
+ghost use mathlib.Core.Path.{_≡_};
+ghost use Rattle.scope.specs.Judge.{judge as judge'};
+ghost use Rattle.tables.specs.Met.{lentWith};
+ghost use Rattle.judge.specs.Answers.{answerOf, refusalAnswer, walkedTo};
+use machine::Walked;
+use machine::walking;
+use tables::Checked;
+use tables::Counts;
+
+// A refusal number of document 01, 0 for granted, and its place.
+pub struct Answer {
+    pub refusal: u16,
+    pub place: u32,
+}
+
+fn refused_by(checks: Checked) -> Answer
+    ensures { λ r. ⌜ r ≡ refusalAnswer checks ⌝ }
+{
+    match checks {
+        Checked::Fine => Answer {
+            refusal: 0,
+            place: 0,
+        },
+        Checked::Refused(r) => Answer {
+            refusal: r.number,
+            place: r.place,
+        },
+    }
+}
+
+fn walked_to(walked: Walked) -> Answer
+    ensures { λ r. ⌜ r ≡ walkedTo walked ⌝ }
+{
+    match walked {
+        Walked::Granted => Answer {
+            refusal: 0,
+            place: 0,
+        },
+        Walked::Refused(r) => Answer {
+            refusal: r.number,
+            place: r.step,
+        },
+    }
+}
+
+pub fn judge(counts: Counts, forms: &[u16], lines: &[u16], steps: &[u16]) -> Answer
+    ensures { λ r. ⌜ r ≡ answerOf (judge' (lentWith counts (now (forms .entry)) (now (lines .entry)) (now (steps .entry)))) ⌝ }
+{
+    let checks = tables::check_tables(counts, forms, lines, steps);
+    let Checked::Fine = checks else {
+        return refused_by(checks);
+    };
+    let walked = walking::walk_steps(forms, lines, steps, counts.lines, counts.goal, counts.steps);
+    walked_to(walked)
+}

@@ -1,0 +1,234 @@
+-- The walk taken turn by turn, as laws over its definitions: what a turn does to the state, and what the walk answers at its end.
+use Prim.{Unit}
+use Prim.Native.Nat.{ℕ, zero, suc, _+_, _-_, _*_, _<_, _≤_}
+use mathlib.Core.Path.{_≡_, refl, sym, _∙_, ap}
+use mathlib.Core.List.{List, [], _∷_}
+use native.Mathlib.Omega.{arith}
+use lib.ListN.{getD, set, length, replicate}
+use lib.Dec.{eqb}
+use borrow.Author.Tests.{eq-eqb, ne-eqb}
+use Rattle.facts.specs.Rows.{noted, sfRows, rootRows}
+use Rattle.moves.specs.declared.Step.{Step}
+use Rattle.moves.specs.declared.Step.the-variants as step
+use Rattle.moves.specs.declared.Move.{Move}
+use Rattle.moves.specs.declared.Move.the-variants as move
+use Rattle.moves.specs.declared.Judged.{Judged}
+use Rattle.moves.specs.declared.Judged.the-variants.{Fits, No}
+use Rattle.moves.specs.Steps.{pick}
+use Rattle.moves.specs.Judge.{rowAt, judgeStep}
+use Rattle.moves.specs.Tests.{pick-true, pick-false}
+use Rattle.machine.specs.declared.Obligation.{Obligation}
+use Rattle.machine.specs.declared.Change.{Change}
+use Rattle.machine.specs.declared.Walked.{Walked}
+use Rattle.machine.specs.declared.Walked.the-variants.{Granted}
+use Rattle.machine.specs.Change.{topChunk, goalIn, changeOf, rowsAfter}
+use Rattle.machine.specs.Room.{room}
+use Rattle.machine.specs.Machine.{State, nothing, obligationAt, current, stepIn, judgedNow, moved, goOn, refusedAt, ranFrom, lineNoted, linesNoted, linesPut, first, begun, ran}
+use Rattle.machine.specs.Turn.{numberIn, stateOf}
+
+-- One step of the definition, and none.
+ran-suc : (forms steps : List ℕ) (k i : ℕ) (s : State) →
+    ranFrom forms steps (suc k) i s ≡
+    pick (eqb (s .opened) 0) (refusedAt 11 i)
+    (goOn (judgedNow forms s (stepIn steps i)) i (λ m. ranFrom forms steps k (i + 1) (moved s m)))
+unfolding ranFrom
+ran-suc forms steps k i s = refl
+
+ran-zero : (forms steps : List ℕ) (i : ℕ) (s : State) →
+    ranFrom forms steps zero i s ≡ pick (eqb (s .opened) 0) Granted (refusedAt 12 i)
+unfolding ranFrom
+ran-zero forms steps i s = refl
+
+on-fits : (j : Judged) (i : ℕ) (next : Move → Walked) (m : Move) → j ≡ Fits m → goOn j i next ≡ next m
+unfolding goOn
+on-fits j i next m e = rw e refl
+
+on-no : (j : Judged) (i : ℕ) (next : Move → Walked) (k : ℕ) → j ≡ No k → goOn j i next ≡ refusedAt k i
+unfolding goOn
+on-no j i next k e = rw e refl
+
+pub at-first : (forms steps : List ℕ) (n : ℕ) (s : State) → ranFrom forms steps n 0 s ≡ ranFrom forms steps (n - 0) 0 s
+at-first forms steps n s = let e : n ≡ n - 0 = omega arith in ap (λ (k : ℕ). ranFrom forms steps k 0 s) e
+
+one-more : (n i : ℕ) → i < n → n - i ≡ suc (n - (i + 1))
+one-more n i h = omega arith
+
+module _ (forms steps : List ℕ) (n i : ℕ) (s : State) where
+  -- A step that fits.
+  turn : (m : Move) → i < n → (s .opened ≡ 0 → ⊥) → judgedNow forms s (stepIn steps i) ≡ Fits m →
+      ranFrom forms steps (n - i) i s ≡ ranFrom forms steps (n - (i + 1)) (i + 1) (moved s m)
+  turn m h some fits =
+      ap (λ (k : ℕ). ranFrom forms steps k i s) (one-more n i h) ∙
+      ran-suc forms steps (n - (i + 1)) i s ∙
+      pick-false _ _ _ (ne-eqb (s .opened) 0 some) ∙
+      on-fits _ i _ m fits
+
+  -- A step that is refused, and one where everything is closed.
+  pub turn-no : (j : Judged) (k number : ℕ) → i < n → (s .opened ≡ 0 → ⊥) → judgedNow forms s (stepIn steps i) ≡ j → j ≡ No k →
+      number ≡ numberIn j → ranFrom forms steps (n - i) i s ≡ refusedAt number i
+  unfolding numberIn
+  turn-no j k number h some judged refused e =
+      ap (λ (k : ℕ). ranFrom forms steps k i s) (one-more n i h) ∙
+      ran-suc forms steps (n - (i + 1)) i s ∙
+      pick-false _ _ _ (ne-eqb (s .opened) 0 some) ∙
+      on-no _ i _ k (judged ∙ refused) ∙
+      ap (λ (x : ℕ). refusedAt x i) (sym (e ∙ ap numberIn refused))
+
+  pub turn-late : i < n → s .opened ≡ 0 → ranFrom forms steps (n - i) i s ≡ refusedAt 11 i
+  turn-late h none =
+      ap (λ (k : ℕ). ranFrom forms steps k i s) (one-more n i h) ∙
+      ran-suc forms steps (n - (i + 1)) i s ∙
+      pick-true _ _ _ (eq-eqb (s .opened) 0 none)
+
+  -- No step is left.
+  pub ended : n ≤ i → s .opened ≡ 0 → ranFrom forms steps (n - i) i s ≡ Granted
+  ended h none =
+      let e : n - i ≡ 0 = omega arith in
+      ap (λ (k : ℕ). ranFrom forms steps k i s) e ∙ ran-zero forms steps i s ∙
+      pick-true _ _ _ (eq-eqb (s .opened) 0 none)
+
+  pub ended-open : n ≤ i → (s .opened ≡ 0 → ⊥) → ranFrom forms steps (n - i) i s ≡ refusedAt 12 i
+  ended-open h some =
+      let e : n - i ≡ 0 = omega arith in
+      ap (λ (k : ℕ). ranFrom forms steps k i s) e ∙ ran-zero forms steps i s ∙
+      pick-false _ _ _ (ne-eqb (s .opened) 0 some)
+
+-- The beginning, line by line: an `sf` line, another one, and the lines from the last on.
+pub line-sf : (forms : List ℕ) (f : ℕ) (rows : List ℕ) → rowAt forms f .kind ≡ 7 →
+    noted rows 0 (rowAt forms f .left) (rowAt forms f .right) ≡ lineNoted forms f rows
+unfolding lineNoted
+line-sf forms f rows e = sym (pick-true _ _ _ (eq-eqb (rowAt forms f .kind) 7 e))
+
+pub line-other : (forms : List ℕ) (f : ℕ) (rows : List ℕ) → (rowAt forms f .kind ≡ 7 → ⊥) → rows ≡ lineNoted forms f rows
+unfolding lineNoted
+line-other forms f rows e = sym (pick-false _ _ _ (ne-eqb (rowAt forms f .kind) 7 e))
+
+less-one : (n : ℕ) → suc n - 1 ≡ n
+less-one n = omega arith
+
+pub line-noted : (forms lines : List ℕ) (n f : ℕ) (rows more : List ℕ) → 0 < n → f ≡ getD lines (n - 1) 0 →
+    more ≡ lineNoted forms f rows → linesNoted forms lines (n - 1) more ≡ linesNoted forms lines n rows
+unfolding linesNoted
+line-noted forms lines zero f rows more h p q = let z : ⊥ = omega arith in absurd z
+line-noted forms lines (suc n) f rows more h p q =
+    ap (λ (k : ℕ). linesNoted forms lines k more) (less-one n) ∙
+    ap (linesNoted forms lines n) (q ∙ ap (λ (x : ℕ). lineNoted forms x rows) (p ∙ ap (λ (k : ℕ). getD lines k 0) (less-one n)))
+
+pub none-noted : (forms lines : List ℕ) (n : ℕ) (rows : List ℕ) → n ≡ 0 → linesNoted forms lines n rows ≡ rows
+unfolding linesNoted
+none-noted forms lines n rows e = rw e refl
+
+pub line-put : (lines : List ℕ) (n f : ℕ) (clauses more : List ℕ) → 0 < n → f ≡ getD lines (n - 1) 0 →
+    more ≡ set clauses (n - 1) f → linesPut lines (n - 1) more ≡ linesPut lines n clauses
+unfolding linesPut
+line-put lines zero f clauses more h p q = let z : ⊥ = omega arith in absurd z
+line-put lines (suc n) f clauses more h p q =
+    ap (λ (k : ℕ). linesPut lines k more) (less-one n) ∙
+    ap (linesPut lines n)
+    (q ∙ ap (λ (k : ℕ). set clauses k f) (less-one n) ∙
+    ap (set clauses n) (p ∙ ap (λ (k : ℕ). getD lines k 0) (less-one n)))
+
+pub none-put : (lines : List ℕ) (n : ℕ) (clauses : List ℕ) → n ≡ 0 → linesPut lines n clauses ≡ clauses
+unfolding linesPut
+none-put lines n clauses e = rw e refl
+
+-- The step of a pair.
+pub step-pair : (kind number : ℕ) (steps : List ℕ) (i : ℕ) → kind ≡ getD steps (i * 2) 0 → number ≡ getD steps (i * 2 + 1) 0 →
+    stepIn (kind ∷ number ∷ []) 0 ≡ stepIn steps i
+unfolding stepIn
+step-pair kind number steps i ek en =
+    ap (λ (x : ℕ). stepIn (x ∷ number ∷ []) 0) ek ∙ ap (λ (x : ℕ). stepIn (getD steps (i * 2) 0 ∷ x ∷ []) 0) en
+
+-- A kind past the table's is the last one.
+last-kind : (n number : ℕ) → stepIn (suc (suc (suc (suc (suc (suc (suc (suc (suc (suc (suc (suc (suc (suc (suc (suc (suc n)))))))))))))))) ∷ number ∷ []) 0 ≡ step.Note
+unfolding stepIn
+last-kind zero number = refl
+last-kind (suc n) number = refl
+
+pub kind-note : (k number : ℕ) → 17 ≤ k → stepIn (k ∷ number ∷ []) 0 ≡ step.Note
+kind-note k number h =
+    let n : ℕ = k - 17 in
+    let e : k ≡ suc (suc (suc (suc (suc (suc (suc (suc (suc (suc (suc (suc (suc (suc (suc (suc (suc n)))))))))))))))) = omega arith in
+    ap (λ (x : ℕ). stepIn (x ∷ number ∷ []) 0) e ∙ last-kind n number
+
+-- A number that is none of the first n.
+abbrev pub Beyond : ℕ → ℕ → Type 0
+Beyond zero x = Unit
+Beyond (suc n) x = Beyond n x × (x ≡ n → ⊥)
+
+pub beyond : (n x : ℕ) → Beyond n x → n ≤ x
+beyond zero x h = omega arith
+beyond (suc n) x h =
+    let below : n ≤ x = beyond n x (h .0) in
+    let other : x ≡ n → ⊥ = h .1 in
+    omega arith
+
+-- A move written into the state, given what each call of a turn answers.
+read-any : (l : List Obligation) (i : ℕ) (a b : Obligation) → i < length l → getD l i a ≡ getD l i b
+read-any [] i a b h = let z : ⊥ = omega arith in absurd z
+read-any (x ∷ l) zero a b h = refl
+read-any (x ∷ l) (suc i) a b h = read-any l i a b (omega arith)
+
+pub read-at : (s : State) (i j : ℕ) (a : Obligation) → j ≡ i → i < length (s .stack) → getD (s .stack) j a ≡ obligationAt s i
+unfolding obligationAt
+read-at s i j a e h = ap (λ (k : ℕ). getD (s .stack) k a) e ∙ read-any (s .stack) i a nothing h
+
+pub judged-is : (forms : List ℕ) (s : State) (x : Step) (o : Obligation) (j : Judged) → o ≡ current s →
+    j ≡ judgeStep forms (s .rows) (s .clauses) (s .ats) (o .phase) (topChunk o) x (o .worlds) (o .clauses) (s .opened) →
+    judgedNow forms s x ≡ j
+unfolding judgedNow
+judged-is forms s x o j e q = sym (rw e at q)
+
+moved-is : (s : State) (m : Move) (o next : Obligation) (made : Change) (rows clauses ats : List ℕ) →
+    o ≡ current s → next ≡ obligationAt s (s .opened - 2) →
+    made ≡ changeOf m o (sfRows (s .rows) (o .worlds - 1)) (s .opened) → rows ≡ rowsAfter m o next (s .rows) →
+    clauses ≡ set (s .clauses) (o .clauses) (topChunk o) → ats ≡ set (s .ats) (o .clauses) (goalIn (o .phase) .at .0) →
+    stateOf rows (set (set (s .stack) (s .opened) (made .upper)) (s .opened - 1) (made .lower)) (made .opened) clauses ats ≡
+    moved s m
+unfolding moved
+moved-is s m o next made rows clauses ats eo en em er ec ea = rw (er, em, ec, ea, en, eo) refl
+
+room-after : (m : Move) (o : Obligation) (saved : List ℕ) (w c k opened : ℕ) → room m w c k opened → opened ≤ 256 →
+    changeOf m o saved opened .opened ≤ 256
+unfolding room changeOf
+room-after move.Close o saved w c k opened r h = omega arith
+room-after (move.Go p) o saved w c k opened r h = h
+room-after (move.Both f g) o saved w c k opened r h = omega arith
+room-after (move.Meet f p) o saved w c k opened r h = omega arith
+room-after (move.Less f g) o saved w c k opened r h = h
+room-after (move.Speak a f) o saved w c k opened r h = h
+room-after move.Push o saved w c k opened r h = h
+room-after move.Drop o saved w c k opened r h = h
+room-after (move.Note a b) o saved w c k opened r h = h
+room-after (move.Split f g) o saved w c k opened r h = h
+room-after (move.Case f g) o saved w c k opened r h = omega arith
+
+pub made-room : (m : Move) (o : Obligation) (saved : List ℕ) (w c k opened : ℕ) (made : Change) → made ≡ changeOf m o saved opened →
+    room m w c k opened → opened ≤ 256 → made .opened ≤ 256
+made-room m o saved w c k opened made e r h = rw e (room-after m o saved w c k opened r h)
+
+-- A whole turn: what is left of the walk, from the state that the turn has written.
+pub turn-on : (forms steps : List ℕ) (n i : ℕ) (s : State) (whole : Walked) (m : Move) (o next : Obligation) (j : Judged) (made : Change)
+    (rows clauses ats : List ℕ) → whole ≡ ranFrom forms steps (n - i) i s → i < n → (s .opened ≡ 0 → ⊥) → o ≡ current s →
+    next ≡ obligationAt s (s .opened - 2) →
+    j ≡ judgeStep forms (s .rows) (s .clauses) (s .ats) (o .phase) (topChunk o) (stepIn steps i) (o .worlds) (o .clauses) (s .opened) →
+    j ≡ Fits m → made ≡ changeOf m o (sfRows (s .rows) (o .worlds - 1)) (s .opened) → rows ≡ rowsAfter m o next (s .rows) →
+    clauses ≡ set (s .clauses) (o .clauses) (topChunk o) → ats ≡ set (s .ats) (o .clauses) (goalIn (o .phase) .at .0) →
+    whole ≡
+    ranFrom forms steps (n - (i + 1)) (i + 1)
+    (stateOf rows (set (set (s .stack) (s .opened) (made .upper)) (s .opened - 1) (made .lower)) (made .opened) clauses ats)
+turn-on forms steps n i s whole m o next j made rows clauses ats w early some eo en ej fits em er ec ea =
+    w ∙ turn forms steps n i s m early some (judged-is forms s (stepIn steps i) o j eo ej ∙ fits) ∙
+    ap (ranFrom forms steps (n - (i + 1)) (i + 1)) (sym (moved-is s m o next made rows clauses ats eo en em er ec ea))
+
+-- The first state.
+pub ran-is : (forms lines steps : List ℕ) (count goal n : ℕ) (rows clauses : List ℕ) (o : Obligation) (answer : Walked) →
+    rows ≡ linesNoted forms lines count rootRows → clauses ≡ linesPut lines count (replicate 257 0) → o ≡ first goal count →
+    answer ≡ ranFrom forms steps n 0 (stateOf rows (replicate 257 o) 1 clauses (replicate 257 0)) →
+    answer ≡ ran forms lines steps count goal n
+unfolding ran begun
+ran-is forms lines steps count goal n rows clauses o answer er ec eo e =
+    e ∙ ap (λ (x : List ℕ). ranFrom forms steps n 0 (stateOf x (replicate 257 o) 1 clauses (replicate 257 0))) er ∙
+    ap (λ (x : List ℕ). ranFrom forms steps n 0 (stateOf (linesNoted forms lines count rootRows) (replicate 257 o) 1 x (replicate 257 0))) ec ∙
+    ap (λ (x : Obligation). ranFrom forms steps n 0
+    (stateOf (linesNoted forms lines count rootRows) (replicate 257 x) 1 (linesPut lines count (replicate 257 0)) (replicate 257 0))) eo

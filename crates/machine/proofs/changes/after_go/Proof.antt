@@ -1,0 +1,16 @@
+-- `after_go` meets its contract: each call gives a part of what it states.
+use borrow.Author.Needs.{needs}
+use Rattle.machine.proofs.changes.after_go.Statement.{statement}
+use Rattle.machine.proofs.changes.after_go.Tie as tie
+
+with-phase-requires : tie.Need-with-phase-requires
+with-phase-requires c κs = search needs
+
+only-one-requires : tie.Need-only-one-requires
+only-one-requires c κs = search needs
+
+returns : tie.Need-returns
+returns c = cc
+
+pub after-go-spec : {M : Type 1} → statement M
+after-go-spec = tie.close (tie.spec with-phase-requires only-one-requires returns)

@@ -1,0 +1,24 @@
+-- `put_entry` meets its contract: a store past the end changes nothing.
+use borrow.Author.Needs.{needs}
+use lib.Seq.{set-out}
+use mathlib.Core.Path.{sym}
+use Rattle.machine.proofs.changes.put_entry.Statement.{statement}
+use Rattle.machine.proofs.changes.put_entry.Tie as tie
+
+mul-t : tie.Need-mul-t
+mul-t c = search needs
+
+slice-write-t : tie.Need-slice-write-t
+slice-write-t c = search needs
+
+same-length : tie.Need-same-length
+same-length c = search needs
+
+returns : tie.Need-returns
+returns c = search needs
+
+returns-2 : tie.Need-returns-2
+returns-2 c = sym (set-out (c .before .args .t .now) _ _ (c .if1 .left))
+
+pub put-entry-spec : {M : Type 1} → statement M
+put-entry-spec = tie.close (tie.spec mul-t slice-write-t same-length returns returns-2)

@@ -1,0 +1,4 @@
+pub mod Change
+pub mod Room
+pub mod Machine
+pub mod Turn

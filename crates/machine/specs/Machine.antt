@@ -1,0 +1,136 @@
+-- The walk through the steps over tables of numbers. Crate `judge` proves that it answers as document 01's walk does.
+use Prim.Native.Nat.{ℕ, zero, suc, _+_, _-_, _*_}
+use mathlib.Core.Bool.{Bool, true, false}
+use mathlib.Core.List.{List, [], _∷_}
+use lib.ListN.{getD, set, replicate}
+use lib.Dec.{eqb}
+use Rattle.facts.specs.Rows.{sfRows, rootRows, noted}
+use Rattle.moves.specs.declared.Phase.{Phase}
+use Rattle.moves.specs.declared.Phase.the-variants as phase
+use Rattle.moves.specs.declared.Move.{Move}
+use Rattle.moves.specs.declared.Step.{Step}
+use Rattle.moves.specs.declared.Step.the-variants as step
+use Rattle.moves.specs.declared.Judged.{Judged}
+use Rattle.moves.specs.declared.Judged.the-variants.{Fits, No}
+use Rattle.moves.specs.Steps.{pick}
+use Rattle.moves.specs.Judge.{rowAt, judgeStep}
+use Rattle.machine.specs.declared.Obligation.{Obligation}
+use Rattle.machine.specs.declared.Change.{Change}
+use Rattle.machine.specs.declared.Walked.{Walked}
+use Rattle.machine.specs.declared.Walked.the-variants.{Granted, Refused}
+use Rattle.machine.specs.Change.{lab, topChunk, goalIn, changeOf, rowsAfter}
+
+-- The record that the walk writes in place: the rows of facts, the open obligations (the last opened is the current one), the clauses.
+pub record State : Type 0 where
+  pub rows : List ℕ
+  pub stack : List Obligation
+  pub opened : ℕ
+  pub clauses : List ℕ
+  pub ats : List ℕ
+
+-- The i-th pair of the step table as a step.
+unfoldable pub stepIn : List ℕ → ℕ → Step
+stepIn steps i =
+    getD
+    (step.And ∷
+    step.Or1 ∷
+    step.Or2 ∷
+    step.Imp ∷
+    step.Says ∷
+    step.Top ∷
+    step.Sf ∷
+    step.Use (record { 0 = getD steps (i * 2 + 1) 0 }) ∷
+    step.Left ∷
+    step.Right ∷
+    step.To (record { 0 = getD steps (i * 2 + 1) 0 }) ∷
+    step.Hit ∷
+    step.Push ∷
+    step.Split ∷
+    step.Case ∷
+    step.Absurd ∷
+    step.Drop ∷
+    step.Note ∷
+    [])
+    (getD steps (i * 2) 0)
+    step.Note
+
+-- What stands past the end of the open obligations.
+abbrev pub nothing : Obligation
+nothing =
+    record { phase = phase.Goal (lab 0 0); worlds = 0; clauses = 0; chunks = replicate 16 0; saved = replicate 16 0 }
+
+unfoldable pub obligationAt : State → ℕ → Obligation
+obligationAt s i = getD (s .stack) i nothing
+
+abbrev pub current : State → Obligation
+current s = obligationAt s (s .opened - 1)
+
+-- The move written into the record.
+unfoldable pub moved : State → Move → State
+unfolding obligationAt changeOf rowsAfter topChunk goalIn
+moved s m =
+    let o = current s in
+    let c = changeOf m o (sfRows (s .rows) (o .worlds - 1)) (s .opened) in
+    record {
+      rows = rowsAfter m o (obligationAt s (s .opened - 2)) (s .rows);
+      stack = set (set (s .stack) (s .opened) (c .upper)) (s .opened - 1) (c .lower);
+      opened = c .opened;
+      clauses = set (s .clauses) (o .clauses) (topChunk o);
+      ats = set (s .ats) (o .clauses) (goalIn (o .phase) .at .0);
+    }
+
+unfoldable pub judgedNow : List ℕ → State → Step → Judged
+unfolding obligationAt topChunk judgeStep
+judgedNow forms s x =
+    let o = current s in
+    judgeStep forms (s .rows) (s .clauses) (s .ats) (o .phase) (topChunk o) x (o .worlds) (o .clauses) (s .opened)
+
+abbrev pub refusedAt : ℕ → ℕ → Walked
+refusedAt k i = Refused (record { number = k; step = i + 1 })
+
+unfoldable pub goOn : Judged → ℕ → (Move → Walked) → Walked
+goOn (Fits m) i next = next m
+goOn (No k) i next = refusedAt k i
+
+-- n steps are left, from step number i (from 0) on: 11 where everything is closed, 12 where something is open at the end.
+unfoldable pub ranFrom : List ℕ → List ℕ → ℕ → ℕ → State → Walked
+unfolding pick goOn judgedNow stepIn moved
+ranFrom forms steps zero i s = pick (eqb (s .opened) 0) Granted (refusedAt 12 i)
+ranFrom forms steps (suc n) i s =
+    pick (eqb (s .opened) 0) (refusedAt 11 i)
+    (goOn (judgedNow forms s (stepIn steps i)) i (λ m. ranFrom forms steps n (i + 1) (moved s m)))
+
+-- The policy lines from the last back to line 0: each is a clause at world 0, and an `sf` line is noted there.
+unfoldable pub lineNoted : List ℕ → ℕ → List ℕ → List ℕ
+unfolding pick rowAt noted
+lineNoted forms f rows =
+    pick (eqb (rowAt forms f .kind) 7) (noted rows 0 (rowAt forms f .left) (rowAt forms f .right)) rows
+
+unfoldable pub linesNoted : List ℕ → List ℕ → ℕ → List ℕ → List ℕ
+unfolding lineNoted
+linesNoted forms lines zero rows = rows
+linesNoted forms lines (suc i) rows = linesNoted forms lines i (lineNoted forms (getD lines i 0) rows)
+
+unfoldable pub linesPut : List ℕ → ℕ → List ℕ → List ℕ
+linesPut lines zero clauses = clauses
+linesPut lines (suc i) clauses = linesPut lines i (set clauses i (getD lines i 0))
+
+unfoldable pub first : ℕ → ℕ → Obligation
+first goal count =
+    record { phase = phase.Goal (lab goal 0); worlds = 1; clauses = count; chunks = replicate 16 0; saved = replicate 16 0 }
+
+unfoldable pub begun : List ℕ → List ℕ → ℕ → ℕ → State
+unfolding first linesNoted linesPut rootRows
+begun forms lines count goal =
+    record {
+      rows = linesNoted forms lines count rootRows;
+      stack = replicate 257 (first goal count);
+      opened = 1;
+      clauses = linesPut lines count (replicate 257 0);
+      ats = replicate 257 0;
+    }
+
+-- The answer about the steps for tables that passed their checks.
+unfoldable pub ran : List ℕ → List ℕ → List ℕ → ℕ → ℕ → ℕ → Walked
+unfolding ranFrom begun
+ran forms lines steps count goal stepCount = ranFrom forms steps stepCount 0 (begun forms lines count goal)

@@ -1,0 +1,15 @@
+-- What the contracts of a turn cite besides the walk: the number of a refusal, and the state by its parts.
+use Prim.Native.Nat.{ℕ}
+use mathlib.Core.List.{List}
+use Rattle.moves.specs.declared.Judged.{Judged}
+use Rattle.moves.specs.declared.Judged.the-variants.{Fits, No}
+use Rattle.machine.specs.declared.Obligation.{Obligation}
+use Rattle.machine.specs.Machine.{State}
+
+unfoldable pub numberIn : Judged → ℕ
+numberIn (Fits m) = 0
+numberIn (No k) = k
+
+abbrev pub stateOf : List ℕ → List Obligation → ℕ → List ℕ → List ℕ → State
+stateOf rows stack opened clauses ats =
+    record { rows = rows; stack = stack; opened = opened; clauses = clauses; ats = ats }

@@ -1,0 +1,41 @@
+// The walk through the steps over one record of open obligations, written in place.
+use facts::PRINCIPALS;
+use facts::Row;
+use moves::Phase;
+
+mod begin;
+mod changes;
+pub mod walking;
+
+// Chunks of an obligation, one place for each.
+pub const CHUNKS: usize = 16;
+
+// An open obligation: its phase, the worlds and clauses of its sequent, its chunks (the topmost last, all at the goal's world), and, where
+// it waits, the rows of sf of its newest world as they stood when it was made.
+pub struct Obligation {
+    pub phase: Phase,
+    pub worlds: u16,
+    pub clauses: u16,
+    pub chunks: [u16; CHUNKS],
+    pub saved: [Row; PRINCIPALS],
+}
+
+// What a move makes of the current obligation, which is the last of those opened: what stands in its place, what stands after it where one
+// more is open now, and how many are open.
+pub struct Change {
+    pub lower: Obligation,
+    pub upper: Obligation,
+    pub opened: u16,
+}
+
+// The answer about the steps.
+pub enum Walked {
+    Granted,
+    Refused(Refusal),
+}
+
+// The step is wider than a count of steps, so that the one after the last has a number for every count.
+pub struct Refusal {
+    pub number: u16,
+    pub step: u32,
+}

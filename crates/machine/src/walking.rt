@@ -1,0 +1,209 @@
+// The walk: each step is judged on the current obligation and its move written in place; the first refusal is the answer.
+ghost use mathlib.Core.Path.{_≡_};
+ghost use mathlib.Core.List.{[], _∷_};
+ghost use Prim.Native.Nat.{_-_};
+ghost use lib.ListN.{set, replicate};
+ghost use Rattle.facts.specs.Rows.{sfRows};
+ghost use Rattle.moves.specs.Judge.{judgeStep};
+ghost use Rattle.machine.specs.Change.{chunkCount, topChunk, goalIn, changeOf};
+ghost use Rattle.machine.specs.Room.{room};
+ghost use Rattle.machine.specs.Machine.{stepIn, refusedAt, ranFrom, ran};
+ghost use Rattle.machine.specs.Turn.{numberIn, stateOf};
+use crate::Change;
+use crate::Obligation;
+use crate::Refusal;
+use crate::Walked;
+use crate::begin;
+use crate::changes;
+use facts::ROWS;
+use facts::Row;
+use facts::World;
+use moves::Clause;
+use moves::Judged;
+use moves::Move;
+use moves::Step;
+use moves::judging;
+use moves::judging::CLAUSES;
+
+// The open obligations, and one place more, which is never read.
+const OPENED: usize = 257;
+
+fn step_of(kind: u16, number: u16) -> Step
+    ensures { λ r. ⌜ r ≡ stepIn (kind ∷ number ∷ []) 0 ⌝ }
+{
+    match kind {
+        0 => Step::And,
+        1 => Step::Or1,
+        2 => Step::Or2,
+        3 => Step::Imp,
+        4 => Step::Says,
+        5 => Step::Top,
+        6 => Step::Sf,
+        7 => Step::Use(Clause(number)),
+        8 => Step::Left,
+        9 => Step::Right,
+        10 => Step::To(World(number)),
+        11 => Step::Hit,
+        12 => Step::Push,
+        13 => Step::Split,
+        14 => Step::Case,
+        15 => Step::Absurd,
+        16 => Step::Drop,
+        _ => Step::Note,
+    }
+}
+
+fn step_at(steps: &[u16], i: u16) -> Step
+    ensures { λ r. ⌜ r ≡ stepIn (now (steps .entry)) i ⌝ }
+{
+    let at = i as usize * 2;
+    let kind = judging::entry(steps, at);
+    let number = judging::entry(steps, at + 1);
+    step_of(kind, number)
+}
+
+fn refused_at(number: u16, i: u16) -> Walked
+    ensures { λ r. ⌜ r ≡ refusedAt number i ⌝ }
+{
+    let step = i as u32 + 1;
+    Walked::Refused(Refusal { number, step })
+}
+
+fn number_in(j: Judged) -> u16
+    ensures { λ r. ⌜ r ≡ numberIn j ⌝ }
+{
+    match j {
+        Judged::Fits(_) => 0,
+        Judged::No(k) => k,
+    }
+}
+
+// Step number i judged on the current obligation.
+fn judge_now(
+    forms: &[u16],
+    rows: &[Row; ROWS],
+    clauses: &[u16; CLAUSES],
+    ats: &[u16; CLAUSES],
+    steps: &[u16],
+    i: u16,
+    o: Obligation,
+    opened: u16,
+) -> Judged
+    ensures { λ r. ⌜ r ≡ judgeStep (now (forms .entry)) (now (rows .entry)) (now (clauses .entry)) (now (ats .entry)) (o .phase) (topChunk o) (stepIn (now (steps .entry)) i) (o .worlds) (o .clauses) opened ⌝ }
+{
+    let phase = o.phase;
+    let worlds = o.worlds;
+    let count = o.clauses;
+    let top = changes::top_chunk(o);
+    let x = step_at(steps, i);
+    judging::judge_step(
+        forms,
+        rows,
+        clauses,
+        ats,
+        phase,
+        top,
+        x,
+        worlds,
+        count,
+        opened,
+    )
+}
+
+// What the move makes of the current obligation, which waits, where it does, with the rows of sf of its newest world.
+fn change_now(rows: &[Row; ROWS], m: Move, o: Obligation, opened: u16) -> Change
+    requires { ⌜ room m (o .worlds) (o .clauses) (chunkCount (o .phase)) opened ⌝ }
+    ensures { λ r. ⌜ r ≡ changeOf m o (sfRows (now (rows .entry)) (o .worlds - 1)) opened ⌝ }
+{
+    let newest = changes::less_by(o.worlds, 1);
+    let saved = facts::sf_rows(rows, World(newest));
+    changes::change_of(m, o, saved, opened)
+}
+
+// The topmost chunk at the next clause's number, which no sequent has yet.
+fn put_clause(clauses: &mut [u16; CLAUSES], o: Obligation)
+    ensures { λ _. ⌜ now (clauses .exit) ≡ set (now (clauses .entry)) (o .clauses) (topChunk o) ⌝ }
+{
+    let n = o.clauses as usize;
+    let top = changes::top_chunk(o);
+    changes::put_entry(clauses, n, top);
+}
+
+fn put_world(ats: &mut [u16; CLAUSES], o: Obligation)
+    ensures { λ _. ⌜ now (ats .exit) ≡ set (now (ats .entry)) (o .clauses) (goalIn (o .phase) .at .0) ⌝ }
+{
+    let n = o.clauses as usize;
+    let phase = o.phase;
+    let g = changes::goal_in(phase);
+    let u = g.at;
+    changes::put_entry(ats, n, u.0);
+}
+
+// All steps, from one open obligation on.
+fn run_steps(
+    forms: &[u16],
+    steps: &[u16],
+    total: u16,
+    rows: &mut [Row; ROWS],
+    clauses: &mut [u16; CLAUSES],
+    ats: &mut [u16; CLAUSES],
+    begun: Obligation,
+) -> Walked
+    ensures { λ r. ⌜ r ≡ ranFrom (now (forms .entry)) (now (steps .entry)) total 0 (stateOf (now (rows .entry)) (replicate 257 begun) 1 (now (clauses .entry)) (now (ats .entry))) ⌝ }
+{
+    let mut stack = [begun; OPENED];
+    let mut opened: u16 = 1;
+    for i in 0..total {
+        if opened == 0 {
+            return refused_at(11, i);
+        }
+        let top = opened as usize - 1;
+        let o = stack[top];
+        let j = judge_now(forms, rows, clauses, ats, steps, i, o, opened);
+        let Judged::Fits(m) = j else {
+            return refused_at(number_in(j), i);
+        };
+        let made = change_now(rows, m, o, opened);
+        let next = stack[changes::less_by(opened, 2) as usize];
+        changes::move_rows(rows, m, o, next);
+        put_clause(clauses, o);
+        put_world(ats, o);
+        let upper = made.upper;
+        let lower = made.lower;
+        stack[opened as usize] = upper;
+        stack[top] = lower;
+        opened = made.opened;
+    }
+    if 0 < opened {
+        return refused_at(12, total);
+    }
+    Walked::Granted
+}
+
+// The answer about the steps, for any tables and counts: count policy lines, total steps.
+pub fn walk_steps(
+    forms: &[u16],
+    lines: &[u16],
+    steps: &[u16],
+    count: u16,
+    goal: u16,
+    total: u16,
+) -> Walked
+    ensures { λ r. ⌜ r ≡ ran (now (forms .entry)) (now (lines .entry)) (now (steps .entry)) count goal total ⌝ }
+{
+    let mut rows = [0; ROWS];
+    let mut clauses = [0; CLAUSES];
+    let mut ats = [0; CLAUSES];
+    begin::note_lines(&mut rows, forms, lines, count);
+    begin::put_lines(&mut clauses, lines, count);
+    let begun = begin::first_one(goal, count);
+    run_steps(
+        forms,
+        steps,
+        total,
+        &mut rows,
+        &mut clauses,
+        &mut ats,
+        begun,
+    )
+}

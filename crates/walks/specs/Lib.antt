@@ -1,0 +1,17 @@
+pub mod Trees
+pub mod Related
+pub mod Views
+pub mod Moved
+pub mod Moves
+pub mod Rooms
+pub mod Match
+pub mod Fitting
+pub mod GoalSteps
+pub mod FocusSteps
+pub mod ChunkSteps
+pub mod Ran
+pub mod Unpacked
+pub mod Begun
+pub mod Passed
+pub mod Readable
+pub mod Simulation

@@ -1,0 +1,235 @@
+-- Each of the eleven moves keeps the relation: the obligations that document 01's step puts in the current one's place are those of the
+-- record after the move. (`moved-close` of specs/Moved is the eleventh.)
+use Prim.Native.Nat.{ℕ, zero, suc, _<_, _≤_}
+use mathlib.Core.Path.{_≡_, refl, sym, ap, subst, _∙_}
+use mathlib.Core.List.{List, [], _∷_, _++_}
+use native.Mathlib.Omega.{arith}
+use native.Mathlib.Numerals.{add-one}
+use lib.Dec.{leb·suc-zero}
+use lib.ListN.{length, getD, set, length-set}
+use lib.Seq.{getD-set-same}
+use Rattle.scope.specs.Form.{Form}
+use Rattle.scope.specs.Facts.{Fact, le, by, sf}
+use Rattle.scope.specs.Obligation.{Lab, lab, Sequent, Phase, goal, chunks, focus, behind, Obligation, ob}
+use Rattle.facts.specs.Rows.{noted}
+use Rattle.facts.specs.Kept.{Kept}
+use Rattle.moves.specs.declared.Lab as L
+use Rattle.moves.specs.declared.Phase as D
+use Rattle.moves.specs.declared.Phase.the-variants as phase
+use Rattle.moves.specs.declared.Move.the-variants as move
+use Rattle.moves.specs.Steps.{pick, principal}
+use Rattle.moves.specs.Judge.{rowAt}
+use Rattle.machine.specs.declared.Obligation as E
+use Rattle.machine.specs.Change as numbers
+use Rattle.machine.specs.Change.{topChunk, goalIn, changeOf, rowsAfter}
+use Rattle.machine.specs.Machine.{State, moved}
+use Rattle.walks.specs.Trees.{Reading}
+use Rattle.facts.specs.Grown.{kept-le, kept-by, agree-le, agree-by}
+use Rattle.facts.specs.Noted.{kept-note, agree-note}
+use Rattle.walks.specs.Related.{stateOf, entry, downFrom, chunksOf, Below, Rests, at-goal, at-chunks, Stands, at-rest, in-focus}
+use Rattle.walks.specs.Related.{Clauses, seq, Waits, metIn, Frame, Related}
+use Rattle.walks.specs.Views.{chunks-set, below-less, below-more, clauses-set, clauses-pushed, waits-set, waits-rows, waits-wider}
+use Rattle.walks.specs.Moved.{one-less, moved-alone, moved-fork, rests-met}
+
+-- Of any phase.
+module _ {T : Reading} {rows cl ats ch sv : List ℕ} {stack es : List E.Obligation} {n m c : ℕ} {ph : D.Phase} {fs : List Fact}
+    {ls : List Lab} (frame : Frame T rows stack n cl ats ph m c ch sv fs ls) (down : downFrom stack n ≡ es) where
+  pub moved-go : {ph′ : D.Phase} {p′ : Phase} {waiting : List Obligation} → Stands T (suc m) ch ph′ p′ →
+      Waits T rows cl ats (suc m) c es (metIn (seq T (suc m) fs ls) p′ ++ waiting) →
+      Related T (moved (stateOf rows stack (suc n) cl ats) (move.Go ph′)) (ob (seq T (suc m) fs ls) p′ ∷ waiting)
+  unfolding changeOf rowsAfter
+  moved-go {ph′} stands waits =
+      let low : c ≤ c = omega arith in
+      let x : ℕ = topChunk (entry ph (suc m) c ch sv) in
+      moved-alone frame down (move.Go ph′) {sv′ = sv} refl refl (frame .chunk-size)
+      (clauses-set c x (goalIn ph .at .0) low (frame .clauses)) (frame .kept) stands
+      (waits-set c x (goalIn ph .at .0) low waits)
+
+  pub moved-both : {f h u : ℕ} {waiting : List Obligation} → f < T .formulas → h < T .formulas → u < suc m → suc n < 256 →
+      Waits T rows cl ats (suc m) c es waiting →
+      Related T (moved (stateOf rows stack (suc n) cl ats) (move.Both (numbers.lab f u) (numbers.lab h u)))
+      (ob (seq T (suc m) fs ls) (goal (lab (T .tree f) u)) ∷ ob (seq T (suc m) fs ls) (goal (lab (T .tree h) u)) ∷ waiting)
+  unfolding changeOf rowsAfter metIn
+  moved-both {f} {h} {u} p q inside room waits =
+      moved-fork frame down (move.Both (numbers.lab f u) (numbers.lab h u)) refl refl room (frame .chunk-size) (frame .chunk-size)
+      (at-rest (at-goal p inside)) (at-goal q inside) waits refl
+
+  pub moved-meet : {g h v w q : ℕ} {met : List Lab} {waiting : List Obligation} (t : ℕ) → g < T .formulas → h < T .formulas → v < suc m →
+      w < suc m → q ≡ rowAt (T .table) t .left → suc n < 256 → (d : Lab) →
+      Waits T rows cl ats (suc m) c es (metIn (seq T (suc m) fs ls) (focus d q w met) ++ waiting) →
+      Related T
+      (moved (stateOf rows stack (suc n) cl ats) (move.Meet (numbers.lab g v) (phase.Focus (numbers.lab h v) (numbers.lab t w))))
+      (ob (seq T (suc m) fs ls) (focus (lab (T .tree h) v) q w (lab (T .tree g) v ∷ met)) ∷ waiting)
+  unfolding changeOf rowsAfter metIn
+  moved-meet {g} {h} {v} {w} t p r inside aimed same room d waits =
+      moved-fork frame down (move.Meet (numbers.lab g v) (phase.Focus (numbers.lab h v) (numbers.lab t w))) refl refl room
+      (frame .chunk-size) (frame .chunk-size) (in-focus r aimed same) (at-goal p inside) waits refl
+
+-- Of a goal: a new world.
+module _ {T : Reading} {rows cl ats ch sv : List ℕ} {stack es : List E.Obligation} {n m c t u : ℕ} {fs : List Fact}
+    {ls : List Lab} (frame : Frame T rows stack n cl ats (phase.Goal (numbers.lab t u)) m c ch sv fs ls) (down : downFrom stack n ≡ es)
+    (inside : u < suc m) (room : suc m < 32) {waiting : List Obligation} (waits : Waits T rows cl ats (suc m) c es waiting) where
+  pub moved-less : {f h : ℕ} → f < T .formulas → h < T .formulas →
+      Related T (moved (stateOf rows stack (suc n) cl ats) (move.Less f h))
+      (ob (seq T (suc (suc m)) (le u (suc m) ∷ fs) ls) (chunks (T .tree f) [] (lab (T .tree h) (suc m))) ∷ waiting)
+  unfolding changeOf rowsAfter goalIn metIn chunksOf numbers.newWorld
+  moved-less {f} {h} p q =
+      let low : c ≤ c = omega arith in
+      let old : suc m ≤ suc m = omega arith in
+      let more : suc m ≤ suc (suc m) = omega arith in
+      let x : ℕ = topChunk (entry (phase.Goal (numbers.lab t u)) (suc m) c ch sv) in
+      let long : 0 < length ch = omega (arith, frame .chunk-size) in
+      let top : getD (set ch 0 f) 0 0 ≡ f = getD-set-same ch 0 f 0 long in
+      let first : Below (T .formulas) 0 ch = record { each = λ j g. absurd (omega arith) } in
+      let some : 0 < 16 = omega arith in
+      let stands : Stands T (suc (suc m)) (set ch 0 f) (phase.Chunks (numbers.lab h (suc m)) 1)
+      (chunks (T .tree f) [] (lab (T .tree h) (suc m))) =
+      subst (λ (z : ℕ). Stands T (suc (suc m)) (set ch 0 f) (phase.Chunks (numbers.lab h (suc m)) 1)
+      (chunks (T .tree z) [] (lab (T .tree h) (suc m)))) top
+      (at-rest (at-chunks q refl some (below-more f long p first))) in
+      moved-alone frame down (move.Less f h) {sv′ = sv} (rw add-one refl) refl (length-set ch 0 f ∙ frame .chunk-size)
+      (clauses-set c x u low (frame .clauses)) (kept-le (frame .kept) inside room) stands
+      (waits-set c x u low (waits-wider more low (waits-rows (agree-le (suc m) u (suc m) rows old) waits)))
+
+  pub moved-speak : {a f : ℕ} → a < T .principals → f < T .formulas →
+      Related T (moved (stateOf rows stack (suc n) cl ats) (move.Speak (principal a) f))
+      (ob (seq T (suc (suc m)) (by a u (suc m) ∷ fs) ls) (goal (lab (T .tree f) (suc m))) ∷ waiting)
+  unfolding changeOf rowsAfter goalIn metIn numbers.newWorld
+  moved-speak {a} {f} p q =
+      let low : c ≤ c = omega arith in
+      let old : suc m ≤ suc m = omega arith in
+      let more : suc m ≤ suc (suc m) = omega arith in
+      let inner : suc m < suc (suc m) = omega arith in
+      let x : ℕ = topChunk (entry (phase.Goal (numbers.lab t u)) (suc m) c ch sv) in
+      moved-alone frame down (move.Speak (principal a) f) {ch′ = ch} {sv′ = sv} (rw add-one refl) refl (frame .chunk-size)
+      (clauses-set c x u low (frame .clauses)) (kept-by (frame .kept) p inside room) (at-rest (at-goal q inner))
+      (waits-set c x u low (waits-wider more low (waits-rows (agree-by (suc m) a u (suc m) rows old) waits)))
+
+-- Of chunks: the topmost one is number i of the array.
+module _ {T : Reading} {rows cl ats ch sv : List ℕ} {stack es : List E.Obligation} {n m c t u i : ℕ} {fs : List Fact}
+    {ls : List Lab} (frame : Frame T rows stack n cl ats (phase.Chunks (numbers.lab t u) (suc i)) m c ch sv fs ls)
+    (down : downFrom stack n ≡ es) (named : t < T .formulas) (newest : suc u ≡ suc m) (few : i < 16)
+    (known : Below (T .formulas) (suc i) ch) {waiting : List Obligation} (waits : Waits T rows cl ats (suc m) c es waiting) where
+  abbrev here : Sequent
+  here = seq T (suc m) fs ls
+
+  abbrev now : State
+  now = stateOf rows stack (suc n) cl ats
+
+  abbrev aim : Lab
+  aim = lab (T .tree t) u
+
+  abbrev rest : List Form
+  rest = chunksOf (T .tree) i ch
+
+  abbrev goalLab : L.Lab
+  goalLab = numbers.lab t u
+
+  -- The goal behind the chunks below it.
+  popped-rests : (j : ℕ) → j < 16 → Below (T .formulas) j ch →
+      Rests T (suc m) ch (numbers.behind goalLab j) (behind (chunksOf (T .tree) j ch) aim)
+  unfolding numbers.behind pick chunksOf
+  popped-rests zero h b = let inside : u < suc m = omega arith in at-goal named inside
+  popped-rests (suc j) h b = let some : j < 16 = omega arith in rw (leb·suc-zero j) (at-chunks named newest some b)
+
+  waits-on : (s : Sequent) (p : Phase) {rows′ cl′ ats′ : List ℕ} {c′ : ℕ} → Rests T (suc m) ch (numbers.behind goalLab i) p →
+      Waits T rows′ cl′ ats′ (suc m) c′ es waiting → Waits T rows′ cl′ ats′ (suc m) c′ es (metIn s p ++ waiting)
+  waits-on s p r w = rw (rests-met s r) w
+
+  -- The chunks of an array, by what stands there.
+  chunks-are : (j : ℕ) (held : List ℕ) (f : Form) (fs : List Form) → T .tree (getD held j 0) ≡ f → chunksOf (T .tree) j held ≡ fs →
+      Rests T (suc m) held (phase.Chunks goalLab (suc j)) (chunks (T .tree (getD held j 0)) (chunksOf (T .tree) j held) aim) →
+      Rests T (suc m) held (phase.Chunks goalLab (suc j)) (chunks f fs aim)
+  chunks-are j held f fs e q r = rw (e, q) at r
+
+  pub moved-drop : Related T (moved now move.Drop)
+      (ob here (behind rest aim) ∷ waiting)
+  unfolding changeOf rowsAfter numbers.popped numbers.chunkCount goalIn
+  moved-drop =
+      let low : c ≤ c = omega arith in
+      let less : i ≤ suc i = omega arith in
+      let x : ℕ = topChunk (entry (phase.Chunks goalLab (suc i)) (suc m) c ch sv) in
+      let rests = popped-rests i few (below-less less known) in
+      moved-alone frame down move.Drop {ph′ = numbers.behind goalLab i} {ch′ = ch} {sv′ = sv} (rw (one-less i) refl) refl (frame .chunk-size)
+      (clauses-set c x u low (frame .clauses)) (frame .kept) (at-rest rests)
+      (waits-on here (behind rest aim) rests (waits-set c x u low waits))
+
+  pub moved-note : {a b : ℕ} → a < T .principals → b < T .principals →
+      Related T (moved now (move.Note (principal a) (principal b)))
+      (ob (seq T (suc m) (sf u a b ∷ fs) ls) (behind rest aim) ∷ waiting)
+  unfolding changeOf rowsAfter numbers.popped numbers.chunkCount goalIn
+  moved-note {a} {b} p q =
+      let low : c ≤ c = omega arith in
+      let less : i ≤ suc i = omega arith in
+      let old : suc m ≤ suc m = omega arith in
+      let at : m ≡ u = omega arith in
+      let x : ℕ = topChunk (entry (phase.Chunks goalLab (suc i)) (suc m) c ch sv) in
+      let rests = popped-rests i few (below-less less known) in
+      let kept : Kept (suc m) (T .principals) (sf u a b ∷ fs) (noted rows m a b) =
+      subst (λ (z : ℕ). Kept (suc m) (T .principals) (sf z a b ∷ fs) (noted rows m a b)) at (kept-note (frame .kept) p q) in
+      moved-alone frame down (move.Note (principal a) (principal b)) {rows′ = noted rows m a b} {ph′ = numbers.behind goalLab i} {ch′ = ch}
+      {sv′ = sv} (rw (one-less i) refl) (rw (one-less m) refl) (frame .chunk-size)
+      (clauses-set c x u low (frame .clauses)) kept (at-rest rests)
+      (waits-on (seq T (suc m) (sf u a b ∷ fs) ls) (behind rest aim) rests
+      (waits-set c x u low (waits-rows (agree-note (suc m) m a b rows old) waits)))
+
+  pub moved-push : c < 256 →
+      Related T (moved now move.Push)
+      (ob (seq T (suc m) fs (ls ++ (lab (T .tree (getD ch i 0)) u ∷ []))) (behind rest aim) ∷ waiting)
+  unfolding changeOf rowsAfter numbers.popped numbers.chunkCount goalIn topChunk
+  moved-push room =
+      let low : c ≤ c = omega arith in
+      let up : c ≤ suc c = omega arith in
+      let less : i ≤ suc i = omega arith in
+      let old : suc m ≤ suc m = omega arith in
+      let last : i < suc i = omega arith in
+      let e : E.Obligation = entry (phase.Chunks goalLab (suc i)) (suc m) c ch sv in
+      let is : topChunk e ≡ getD ch i 0 = rw (one-less i) refl in
+      let rests = popped-rests i few (below-less less known) in
+      let clauses : Clauses T (set cl c (topChunk e)) (set ats c u) (suc c) (ls ++ (lab (T .tree (getD ch i 0)) u ∷ [])) =
+      subst (λ (z : ℕ). Clauses T (set cl c z) (set ats c u) (suc c) (ls ++ (lab (T .tree (getD ch i 0)) u ∷ []))) (sym is)
+      (clauses-pushed (getD ch i 0) u (known .each i last) room (frame .cl-size) (frame .ats-size) (frame .clauses)) in
+      moved-alone frame down move.Push {ph′ = numbers.behind goalLab i} {c′ = suc c} {ch′ = ch} {sv′ = sv}
+      (rw (one-less i, add-one) refl) refl (frame .chunk-size) clauses (frame .kept) (at-rest rests)
+      (waits-on (seq T (suc m) fs (ls ++ (lab (T .tree (getD ch i 0)) u ∷ []))) (behind rest aim) rests
+      (waits-wider old up (waits-set c (topChunk e) u low waits)))
+
+  pub moved-split : {f h : ℕ} → f < T .formulas → h < T .formulas → suc i < 16 →
+      Related T (moved now (move.Split f h)) (ob here (chunks (T .tree f) (T .tree h ∷ rest) aim) ∷ waiting)
+  unfolding changeOf rowsAfter numbers.split numbers.chunkCount goalIn chunksOf metIn
+  moved-split {f} {h} p q room =
+      let low : c ≤ c = omega arith in
+      let over : i ≤ i = omega arith in
+      let over′ : suc i ≤ suc i = omega arith in
+      let less : i ≤ suc i = omega arith in
+      let x : ℕ = topChunk (entry (phase.Chunks goalLab (suc i)) (suc m) c ch sv) in
+      let long : i < length ch = omega (arith, frame .chunk-size) in
+      let long′ : suc i < length (set ch i h) = rw length-set (omega (arith, frame .chunk-size)) in
+      let held : List ℕ = set (set ch i h) (suc i) f in
+      let top : getD held (suc i) 0 ≡ f = getD-set-same (set ch i h) (suc i) f 0 long′ in
+      let under : chunksOf (T .tree) (suc i) held ≡ T .tree h ∷ rest =
+      chunks-set (T .tree) (suc i) (suc i) f (set ch i h) over′ ∙
+      rw (getD-set-same ch i h 0 long, chunks-set (T .tree) i i h ch over) refl in
+      let stands : Stands T (suc m) held (phase.Chunks goalLab (suc (suc i))) (chunks (T .tree f) (T .tree h ∷ rest) aim) =
+      at-rest
+      (chunks-are (suc i) held (T .tree f) (T .tree h ∷ rest) (ap (T .tree) top) under
+      (at-chunks named newest room (below-more f long′ p (below-more h long q (below-less less known))))) in
+      moved-alone frame down (move.Split f h) {ch′ = held} {sv′ = sv} (rw (one-less i, add-one) refl) refl
+      (length-set (set ch i h) (suc i) f ∙ length-set ch i h ∙ frame .chunk-size)
+      (clauses-set c x u low (frame .clauses)) (frame .kept) stands (waits-set c x u low waits)
+
+  -- Another chunk in the topmost one's place.
+  swapped : (f : ℕ) → f < T .formulas → Rests T (suc m) (set ch i f) (phase.Chunks goalLab (suc i)) (chunks (T .tree f) rest aim)
+  swapped f p =
+      let over : i ≤ i = omega arith in
+      let less : i ≤ suc i = omega arith in
+      let long : i < length ch = omega (arith, frame .chunk-size) in
+      chunks-are i (set ch i f) (T .tree f) rest (ap (T .tree) (getD-set-same ch i f 0 long)) (chunks-set (T .tree) i i f ch over)
+      (at-chunks named newest few (below-more f long p (below-less less known)))
+
+  pub moved-case : {f h : ℕ} → f < T .formulas → h < T .formulas → suc n < 256 →
+      Related T (moved now (move.Case f h)) (ob here (chunks (T .tree f) rest aim) ∷ ob here (chunks (T .tree h) rest aim) ∷ waiting)
+  unfolding changeOf rowsAfter numbers.chunkCount metIn
+  moved-case {f} {h} p q room =
+      moved-fork frame down (move.Case f h) {chu = set ch i f} {chl = set ch i h} (rw (one-less i) refl) refl room
+      (length-set ch i f ∙ frame .chunk-size) (length-set ch i h ∙ frame .chunk-size) (at-rest (swapped f p)) (swapped h q) waits refl

@@ -1,0 +1,53 @@
+-- What the checks of lent tables leave for the walk: few principals and policy lines, each formula's row without refusal, and policy lines
+-- and a goal that name formulas.
+use Prim.Native.Nat.{ℕ, _<_, _≤_}
+use mathlib.Core.Path.{_≡_}
+use mathlib.Core.List.{List, []}
+use native.Mathlib.Omega.{arith}
+use lib.ListN.{length, getD, take}
+use lib.Seq.{length-take-le}
+use Rattle.scope.specs.Request.{Row}
+use Rattle.scope.specs.Kinds.{formKinds}
+use Rattle.scope.specs.Refusals.{formRefusal}
+use Rattle.scope.specs.Tables.{Lent, formEntry, lineEntry, unpack, requestOf}
+use Rattle.scope.specs.Turns.{unpack-length}
+use Rattle.trip.specs.RowRanges as ranges
+use Rattle.trip.specs.RowRanges.{row-passed}
+use Rattle.trip.specs.Small.{count-passed, clause-named, goal-named}
+use Rattle.trip.specs.Several.{Each, each-at}
+use Rattle.trip.specs.File.{Sound}
+use Rattle.walks.specs.Unpacked.{rowOf, form-at, line-at}
+
+pub record Passed (t : Lent) : Type 0 where
+  pub few-principals : t .principals ≤ 16
+  pub each-row : (f : ℕ) → f < t .formulas → ranges.Passed formKinds (t .principals) (t .atoms) f (rowOf (t .formTable) f)
+  pub few-lines : t .lines ≤ 128
+  pub each-line : (i : ℕ) → i < t .lines → getD (t .lineTable) i 0 < t .formulas
+  pub goal-named : t .goal < t .formulas
+
+row-at : (k n : ℕ) (rs : List Row) → Each (λ before r. formRefusal k n before r ≡ 0) (length rs) [] rs →
+    (f : ℕ) (d : Row) → f < length rs → ranges.Passed formKinds k n f (getD rs f d)
+unfolding formRefusal
+row-at k n rs each f d h =
+    let front : length (take f rs) ≡ f = length-take-le f rs (omega arith) in
+    row-passed k n f formKinds (getD rs f d) (rw front at (each-at each d f h))
+
+pub sound-passed : (t : Lent) → Sound (requestOf t) → Passed t
+unfolding requestOf
+sound-passed t s =
+    let nf = unpack-length formEntry (t .formulas) (t .formTable) in
+    let nl = unpack-length lineEntry (t .lines) (t .lineTable) in
+    record {
+      few-principals = count-passed 1 16 (t .principals) (s .principals) .high;
+      each-row =
+          λ f h.
+          rw (form-at (t .formulas) f (t .formTable) (rowOf [] 0) h) at
+          (row-at (t .principals) (t .atoms) _ (s .forms) f (rowOf [] 0) (rw nf h));
+      few-lines = rw nl at (count-passed 0 128 _ (s .clauses) .high);
+      each-line =
+          λ i h.
+          let low : i < length (unpack lineEntry (t .lines) (t .lineTable)) = rw nl h in
+          rw (line-at (t .lines) i (t .lineTable) h, nf) at
+          (clause-named _ _ (each-at (s .lines) 0 i low));
+      goal-named = rw nf at (goal-named _ _ (s .goal));
+    }

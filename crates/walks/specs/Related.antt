@@ -1,0 +1,100 @@
+-- How the record of the machine stands for document 01's open obligations. The entries of the stack, from the last opened down, are the
+-- current obligation, the subgoals met in it (the last met first), and those that wait; each is `Rests` of its phase, or `Stands` in focus.
+-- The rows hold the current obligation's facts; a waiting one's were held by rows that these agree with, but for the saved ones.
+use Prim.Native.Nat.{ℕ, zero, suc, _<_, _≤_}
+use mathlib.Core.Path.{_≡_}
+use mathlib.Core.List.{List, [], _∷_, _++_, map}
+use lib.ListN.{length, getD}
+use Rattle.scope.specs.Form.{Form}
+use Rattle.scope.specs.Facts.{Fact}
+use Rattle.scope.specs.Obligation.{Lab, lab, Sequent, Phase, goal, chunks, focus, Obligation, ob}
+use Rattle.facts.specs.Rows.{sfRows}
+use Rattle.facts.specs.Kept.{Kept, Agree}
+use Rattle.moves.specs.declared.Phase as D
+use Rattle.moves.specs.declared.Phase.the-variants as phase
+use Rattle.moves.specs.Judge.{rowAt}
+use Rattle.machine.specs.declared.Obligation as E
+use Rattle.machine.specs.Change as numbers
+use Rattle.machine.specs.Machine.{State, nothing}
+use Rattle.walks.specs.Trees.{Reading}
+
+abbrev pub stateOf : List ℕ → List E.Obligation → ℕ → List ℕ → List ℕ → State
+stateOf rows stack opened cl ats =
+    record { rows = rows; stack = stack; opened = opened; clauses = cl; ats = ats }
+
+abbrev pub entry : D.Phase → ℕ → ℕ → List ℕ → List ℕ → E.Obligation
+entry ph n c ch sv = record { phase = ph; worlds = n; clauses = c; chunks = ch; saved = sv }
+
+-- The first n entries of the stack, the last of them first.
+unfoldable pub downFrom : List E.Obligation → ℕ → List E.Obligation
+downFrom stack zero = []
+downFrom stack (suc n) = getD stack n nothing ∷ downFrom stack n
+
+-- The first n clauses of the clause tables, and the first n chunks of an obligation's, the last on top.
+unfoldable pub labs : (ℕ → Form) → ℕ → List ℕ → List ℕ → List Lab
+labs tree zero cl ats = []
+labs tree (suc n) cl ats = labs tree n cl ats ++ (lab (tree (getD cl n 0)) (getD ats n 0) ∷ [])
+
+unfoldable pub chunksOf : (ℕ → Form) → ℕ → List ℕ → List Form
+chunksOf tree zero ch = []
+chunksOf tree (suc n) ch = tree (getD ch n 0) ∷ chunksOf tree n ch
+
+-- The first n numbers of a table are below F.
+pub record Below (F n : ℕ) (l : List ℕ) : Type 0 where
+  pub each : (i : ℕ) → i < n → getD l i 0 < F
+
+-- A phase without focus. Chunks are only ever at the newest world.
+pub data Rests (T : Reading) (n : ℕ) (ch : List ℕ) : D.Phase → Phase → Type 0 where
+  at-goal : {f u : ℕ} → f < T .formulas → u < n → Rests T n ch (phase.Goal (numbers.lab f u)) (goal (lab (T .tree f) u))
+  at-chunks : {f u m : ℕ} → f < T .formulas → suc u ≡ n → m < 16 → Below (T .formulas) (suc m) ch →
+      Rests T n ch (phase.Chunks (numbers.lab f u) (suc m))
+      (chunks (T .tree (getD ch m 0)) (chunksOf (T .tree) m ch) (lab (T .tree f) u))
+
+pub data Stands (T : Reading) (n : ℕ) (ch : List ℕ) : D.Phase → Phase → Type 0 where
+  at-rest : {ph : D.Phase} {p : Phase} → Rests T n ch ph p → Stands T n ch ph p
+  in-focus : {f u t w q : ℕ} {met : List Lab} → f < T .formulas → w < n → q ≡ rowAt (T .table) t .left →
+      Stands T n ch (phase.Focus (numbers.lab f u) (numbers.lab t w)) (focus (lab (T .tree f) u) q w met)
+
+-- A sequent's clauses are the first c of the clause tables.
+pub record Clauses (T : Reading) (cl ats : List ℕ) (c : ℕ) (ls : List Lab) : Type 0 where
+  pub are : ls ≡ labs (T .tree) c cl ats
+  pub known : Below (T .formulas) c cl
+  pub few : c ≤ 256
+
+abbrev pub seq : Reading → ℕ → List Fact → List Lab → Sequent
+seq T n fs ls = record { principals = T .principals; worlds = n; facts = fs; clauses = ls }
+
+-- The entries es, from the top down, are the waiting obligations os; none has more worlds than n or more clauses than c.
+pub data Waits (T : Reading) (rows cl ats : List ℕ) : ℕ → ℕ → List E.Obligation → List Obligation → Type 0 where
+  none-waits : {n c : ℕ} → Waits T rows cl ats n c [] []
+  one-waits : {n c m d : ℕ} {ph : D.Phase} {ch sv r : List ℕ} {es : List E.Obligation} {fs : List Fact} {ls : List Lab}
+      {p : Phase} {os : List Obligation} →
+      suc m ≤ n → d ≤ c → Rests T (suc m) ch ph p → length ch ≡ 16 → Clauses T cl ats d ls →
+      Kept (suc m) (T .principals) fs r → Agree (suc m) r rows → sv ≡ sfRows r m → Waits T rows cl ats (suc m) d es os →
+      Waits T rows cl ats n c (entry ph (suc m) d ch sv ∷ es) (ob (seq T (suc m) fs ls) p ∷ os)
+
+-- The subgoals met in a focus, each a goal in the same sequent.
+unfoldable pub metIn : Sequent → Phase → List Obligation
+metIn s (goal g) = []
+metIn s (chunks c cs g) = []
+metIn s (focus d p w met) = map (λ (g : Lab). ob s (goal g)) met
+
+-- The tables and the current entry, which is number n from the bottom.
+pub record Frame (T : Reading) (rows : List ℕ) (stack : List E.Obligation) (n : ℕ) (cl ats : List ℕ)
+    (ph : D.Phase) (m c : ℕ) (ch sv : List ℕ) (fs : List Fact) (ls : List Lab) : Type 0 where
+  pub stack-size : length stack ≡ 257
+  pub cl-size : length cl ≡ 257
+  pub ats-size : length ats ≡ 257
+  pub room : n < 256
+  pub on-top : getD stack n nothing ≡ entry ph (suc m) c ch sv
+  pub chunk-size : length ch ≡ 16
+  pub clauses : Clauses T cl ats c ls
+  pub kept : Kept (suc m) (T .principals) fs rows
+
+pub data Related (T : Reading) : State → List Obligation → Type 0 where
+  all-closed : {rows cl ats : List ℕ} {stack : List E.Obligation} → Related T (stateOf rows stack 0 cl ats) []
+  now-open : {rows cl ats ch sv : List ℕ} {stack es : List E.Obligation} {n m c : ℕ} {ph : D.Phase} {fs : List Fact}
+      {ls : List Lab} {p : Phase} {waiting : List Obligation} →
+      Frame T rows stack n cl ats ph m c ch sv fs ls → downFrom stack n ≡ es → Stands T (suc m) ch ph p →
+      Waits T rows cl ats (suc m) c es (metIn (seq T (suc m) fs ls) p ++ waiting) →
+      Related T (stateOf rows stack (suc n) cl ats) (ob (seq T (suc m) fs ls) p ∷ waiting)

@@ -1,0 +1,42 @@
+-- The machine over numbers answers as document 01's walk does, for every call whose tables pass their checks: `ran-walks`.
+use mathlib.Core.Path.{_≡_, ap, _∙_}
+use mathlib.Core.List.{List, [], _∷_}
+use native.Mathlib.Omega.{arith}
+use Rattle.scope.specs.Answer.{answer}
+use Rattle.scope.specs.Obligation.{Step}
+use Rattle.scope.specs.Room.{within}
+use Rattle.scope.specs.Walk.{walk}
+use Rattle.scope.specs.Tables.{Lent, lineEntry, unpack, requestOf}
+use Rattle.scope.specs.Turns.{unpack-length}
+use Rattle.scope.specs.Checked.{checked}
+use Rattle.scope.specs.Judge.{stepsOf, startOf, stepsAnswer}
+use Rattle.trip.specs.Trip.{checked-fine}
+use Rattle.machine.specs.Machine.{begun, ran}
+use Rattle.walks.specs.Unpacked.{line-at, steps-are}
+use Rattle.walks.specs.Passed.{Passed, sound-passed}
+use Rattle.walks.specs.Readable.{readingOf}
+use Rattle.walks.specs.Related.{Related}
+use Rattle.walks.specs.Begun.{begun-related}
+use Rattle.walks.specs.Ran.{walkedAnswer, stepsFrom, ran-from}
+
+-- What the machine begins with stands for the start, and its steps are the request's.
+module _ (t : Lent) (p : Passed t) where
+  begins : Related (readingOf t p) (begun (t .formTable) (t .lineTable) (t .lines) (t .goal)) (startOf (requestOf t) ∷ [])
+  unfolding requestOf startOf
+  begins =
+      begun-related (readingOf t p) (t .lineTable) (unpack lineEntry (t .lines) (t .lineTable)) (t .lines)
+      (unpack-length lineEntry (t .lines) (t .lineTable)) (omega (arith, p .few-lines)) (λ i h. line-at (t .lines) i (t .lineTable) h)
+      (p .each-line) (t .goal) (p .goal-named)
+
+  steps-same : stepsFrom (t .stepTable) (t .steps) 0 ≡ stepsOf (requestOf t)
+  unfolding requestOf stepsOf
+  steps-same = steps-are (t .stepTable) (t .steps)
+
+pub ran-walks : (t : Lent) → checked t ≡ answer 0 0 →
+    walkedAnswer (ran (t .formTable) (t .lineTable) (t .stepTable) (t .lines) (t .goal) (t .steps)) ≡ stepsAnswer (requestOf t)
+unfolding ran stepsAnswer
+ran-walks t e =
+    let p = sound-passed t (checked-fine t e .sound) in
+    ran-from {T = readingOf t p} (t .stepTable) (t .steps) 0 (begun (t .formTable) (t .lineTable) (t .lines) (t .goal))
+    (startOf (requestOf t) ∷ []) (begins t p) ∙
+    ap (λ (xs : List Step). walk within 0 (startOf (requestOf t) ∷ []) xs) (steps-same t p)

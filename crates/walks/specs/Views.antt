@@ -1,0 +1,113 @@
+-- What the tables mean is not changed by writes past the entries that are looked at: `down-set`, `labs-set`, `chunks-set`, `clauses-set`,
+-- `waits-set`; `waits-rows` says the same of the rows of facts. `clauses-pushed` : a write just past them is one clause more.
+use Prim.Native.Nat.{ℕ, zero, suc, _<_, _≤_}
+use mathlib.Core.Path.{_≡_, refl, sym, ap, _∙_}
+use mathlib.Core.Logic.{_⊎_, ⊎-elim}
+use mathlib.Core.List.{List, [], _∷_, _++_}
+use native.Mathlib.Omega.{arith}
+use native.Mathlib.Nat.{eq-or-lt-of-le}
+use lib.ListN.{length, getD, set}
+use lib.Seq.{getD-set-same, getD-set-other}
+use Rattle.scope.specs.Form.{Form}
+use Rattle.scope.specs.Obligation.{Lab, lab, Obligation}
+use Rattle.facts.specs.Kept.{Agree, agree-self, agree-then}
+use Rattle.machine.specs.declared.Obligation as E
+use Rattle.machine.specs.Machine.{nothing}
+use Rattle.walks.specs.Trees.{Reading}
+use Rattle.walks.specs.Related.{downFrom, labs, chunksOf, Below, Clauses, Waits, none-waits, one-waits}
+
+down-length : (stack : List E.Obligation) (n : ℕ) → length (downFrom stack n) ≡ n
+unfolding downFrom
+down-length stack zero = refl
+down-length stack (suc n) = ap suc (down-length stack n)
+
+pub down-set : (stack : List E.Obligation) (n i : ℕ) (e : E.Obligation) → n ≤ i → downFrom (set stack i e) n ≡ downFrom stack n
+unfolding downFrom
+down-set stack zero i e h = refl
+down-set stack (suc n) i e h =
+    let other : n ≡ i → ⊥ = λ q. omega arith in
+    rw (getD-set-other stack i n e nothing other, down-set stack n i e (omega arith))
+
+-- A number of the table that is not written.
+kept-at : (l : List ℕ) (i j x : ℕ) → j < i → getD (set l i x) j 0 ≡ getD l j 0
+kept-at l i j x h = let other : j ≡ i → ⊥ = λ q. omega arith in getD-set-other l i j x 0 other
+
+pub labs-set : (tree : ℕ → Form) (n i x y : ℕ) (cl ats : List ℕ) → n ≤ i →
+    labs tree n (set cl i x) (set ats i y) ≡ labs tree n cl ats
+unfolding labs
+labs-set tree zero i x y cl ats h = refl
+labs-set tree (suc n) i x y cl ats h =
+    rw (labs-set tree n i x y cl ats (omega arith), kept-at cl i n x h, kept-at ats i n y h)
+
+pub chunks-set : (tree : ℕ → Form) (n i x : ℕ) (ch : List ℕ) → n ≤ i → chunksOf tree n (set ch i x) ≡ chunksOf tree n ch
+unfolding chunksOf
+chunks-set tree zero i x ch h = refl
+chunks-set tree (suc n) i x ch h = rw (chunks-set tree n i x ch (omega arith), kept-at ch i n x h)
+
+pub below-set : {F n : ℕ} {l : List ℕ} (i x : ℕ) → n ≤ i → Below F n l → Below F n (set l i x)
+below-set {F} {n} {l} i x h b = record { each = λ j g. rw (kept-at l i j x (omega arith)) (b .each j g) }
+
+pub below-less : {F n m : ℕ} {l : List ℕ} → m ≤ n → Below F n l → Below F m l
+below-less h b = record { each = λ j g. b .each j (omega arith) }
+
+pub below-more : {F n : ℕ} {l : List ℕ} (x : ℕ) → n < length l → x < F → Below F n l → Below F (suc n) (set l n x)
+below-more {F} {n} {l} x room small b = record { each = λ j g. go j (eq-or-lt-of-le {n = j} {m = n} (omega arith)) }
+  where
+    go : (j : ℕ) → (j ≡ n) ⊎ (j < n) → getD (set l n x) j 0 < F
+    go j = ⊎-elim (λ e. rw (e, getD-set-same l n x 0 room) small) (λ g. rw (kept-at l n j x g) (b .each j g))
+
+pub clauses-set : {T : Reading} {cl ats : List ℕ} {c : ℕ} {ls : List Lab} (i x y : ℕ) → c ≤ i →
+    Clauses T cl ats c ls → Clauses T (set cl i x) (set ats i y) c ls
+clauses-set {T} {cl} {ats} {c} i x y h k =
+    record {
+      are = k .are ∙ sym (labs-set (T .tree) c i x y cl ats h);
+      known = below-set i x h (k .known);
+      few = k .few;
+    }
+
+pub clauses-pushed : {T : Reading} {cl ats : List ℕ} {c : ℕ} {ls : List Lab} (x y : ℕ) → x < T .formulas → c < 256 →
+    length cl ≡ 257 → length ats ≡ 257 → Clauses T cl ats c ls →
+    Clauses T (set cl c x) (set ats c y) (suc c) (ls ++ (lab (T .tree x) y ∷ []))
+unfolding labs
+clauses-pushed {T} {cl} {ats} {c} {ls} x y small h p q k =
+    let room : c < length cl = omega arith in
+    let room′ : c < length ats = omega arith in
+    record {
+      are =
+          rw (labs-set (T .tree) c c x y cl ats (omega arith), getD-set-same cl c x 0 room, getD-set-same ats c y 0 room′)
+          (ap (λ (l : List Lab). l ++ (lab (T .tree x) y ∷ [])) (k .are));
+      known = below-more x room small (k .known);
+      few = h;
+    }
+
+pub waits-set : {T : Reading} {rows cl ats : List ℕ} {n c : ℕ} {es : List E.Obligation} {os : List Obligation} (i x y : ℕ) →
+    c ≤ i → Waits T rows cl ats n c es os → Waits T rows (set cl i x) (set ats i y) n c es os
+waits-set i x y h none-waits = none-waits
+waits-set {c} i x y h (one-waits {d} less fewer rests size clauses kept agree saved more) =
+    let low : d ≤ i = omega arith in
+    one-waits less fewer rests size (clauses-set i x y low clauses) kept agree saved (waits-set i x y low more)
+
+pub waits-rows : {T : Reading} {rows rows′ cl ats : List ℕ} {n c : ℕ} {es : List E.Obligation} {os : List Obligation} →
+    Agree n rows rows′ → Waits T rows cl ats n c es os → Waits T rows′ cl ats n c es os
+waits-rows a none-waits = none-waits
+waits-rows {rows} {rows′} {n} a (one-waits {m} less fewer rests size clauses kept agree saved more) =
+    one-waits less fewer rests size clauses kept (agree-then less agree a) saved
+    (waits-rows (agree-then less (agree-self (suc m) rows) a) more)
+
+pub waits-wider : {T : Reading} {rows cl ats : List ℕ} {n n′ c c′ : ℕ} {es : List E.Obligation} {os : List Obligation} →
+    n ≤ n′ → c ≤ c′ → Waits T rows cl ats n c es os → Waits T rows cl ats n′ c′ es os
+waits-wider h g none-waits = none-waits
+waits-wider {n} {n′} {c} {c′} h g (one-waits {m} {d} less fewer rests size clauses kept agree saved more) =
+    let less′ : suc m ≤ n′ = omega arith in
+    let fewer′ : d ≤ c′ = omega arith in
+    one-waits less′ fewer′ rests size clauses kept agree saved more
+
+waits-length : {T : Reading} {rows cl ats : List ℕ} {n c : ℕ} {es : List E.Obligation} {os : List Obligation} →
+    Waits T rows cl ats n c es os → length es ≡ length os
+waits-length none-waits = refl
+waits-length (one-waits less fewer rests size clauses kept agree saved more) = ap suc (waits-length more)
+
+-- As many wait as entries stand below.
+pub waits-count : {T : Reading} {rows cl ats : List ℕ} {m c : ℕ} {es : List E.Obligation} {os : List Obligation} (stack : List E.Obligation)
+    (n : ℕ) → downFrom stack n ≡ es → Waits T rows cl ats m c es os → n ≡ length os
+waits-count stack n down waits = sym (down-length stack n) ∙ ap length down ∙ waits-length waits

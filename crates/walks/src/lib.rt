@@ -1,0 +1,1 @@
+// The machine over numbers walks as document 01 does: nothing here runs.
