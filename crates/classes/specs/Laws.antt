@@ -1,13 +1,13 @@
 -- What the bytes of a class table say: each bit is the class of document 01, and a row's classes follow from those of its parts.
-use Prim.Native.Nat.{ℕ, zero, suc, _-_, _≤_, _<_, min}
+use Prim.Native.Nat.{ℕ, zero, suc, _-_, _≤_, _<_}
 use native.Mathlib.Nat.{min-eq-left}
 use native.Mathlib.Omega.{arith}
 use mathlib.Core.Path.{_≡_, refl, ap, sym, _∙_}
-use mathlib.Core.List.{List, [], _∷_, _++_, map}
+use mathlib.Core.List.{List, [], map}
 use mathlib.Core.Bool.{Bool, true, false}
 use lib.ListN.{length, getD, length-map, List·getD-append, List·getD-map, replicate}
-use Rattle.scope.specs.Form.{Form, atom, top, bot, and, or, imp, says, sf, both, either, isGoal, isClause, isChunk, isPolicy, isSf}
-use Rattle.scope.specs.Request.{Row, rowForm, formsAfter, formula, goalClass, policyClass}
+use Rattle.scope.specs.Form.{Form, atom, top, bot, and, or, imp, says, sf, either, isGoal, isClause, isChunk, isPolicy, isSf}
+use Rattle.scope.specs.Request.{rowForm, formsAfter, formula, goalClass, policyClass}
 use Rattle.scope.specs.Tables.{formEntry, unpack, padded}
 use Rattle.scope.specs.Limits.{mostFormulas}
 use Rattle.classes.specs.Class.{bit, classByte, classOf, classTable, goalIn, policyIn, clauseIn, chunkIn, andClass, orClass, impClass, saysClass, rowClass}

@@ -1,25 +1,15 @@
 -- One row more: of a table's first things, and of the formulas that rows mean.
 use Prim.Native.Nat.{ℕ, zero, suc, _+_, _*_, _<_}
-use native.Mathlib.Nat.{add-zero, zero-mul, not-suc-le-zero, le-of-suc-le-suc}
+use native.Mathlib.Nat.{add-zero, mul-zero, not-suc-le-zero, le-of-suc-le-suc}
 use native.Mathlib.Omega.{arith}
 use mathlib.Core.Path.{_≡_, refl, ap, sym, _∙_}
-use mathlib.Core.List.{List, [], _∷_, _++_, append-assoc}
+use mathlib.Core.List.{List, [], _∷_, _++_}
 use lib.ListN.{length, getD, take, drop, length-append}
-use lib.Seq.{drop-drop, drop-nil, getD-take, getD-drop}
+use lib.Seq.{drop-drop, getD-take, getD-drop}
+pub use Rattle.scope.specs.Turns.{unpack-turn, unpack-length}
 use Rattle.scope.specs.Form.{Form}
 use Rattle.scope.specs.Request.{Row, rowForm, formsAfter}
 use Rattle.scope.specs.Tables.{Entry, formEntry, unpack}
-
-pub unpack-more : {A : Type 0} (e : Entry A) (n : ℕ) (t : List ℕ) →
-    unpack e (suc n) t ≡ unpack e n t ++ (e .get (take (e .width) (drop (n * e .width) t)) ∷ [])
-unfolding unpack
-unpack-more e zero t = ap (λ (k : ℕ). e .get (take (e .width) (drop k t)) ∷ []) (sym (zero-mul (e .width)))
-unpack-more {A} e (suc n) t =
-    let next : e .width + n * e .width ≡ suc n * e .width = omega arith in
-    ap {B = List A} (λ (l : List A). e .get (take (e .width) t) ∷ l)
-    (unpack-more e n (drop (e .width) t) ∙
-    ap (λ (l : List ℕ). unpack e n (drop (e .width) t) ++ (e .get (take (e .width) l) ∷ []))
-    (drop-drop (n * e .width) (e .width) t ∙ ap (λ (k : ℕ). drop k t) next))
 
 pub forms-more : (fs : List Form) (rs : List Row) (r : Row) →
     formsAfter fs (rs ++ (r ∷ [])) ≡ formsAfter fs rs ++ (rowForm (formsAfter fs rs) r ∷ [])
@@ -32,31 +22,26 @@ unfolding formsAfter
 forms-length fs [] = sym (add-zero (length fs))
 forms-length fs (r ∷ rs) = forms-length (fs ++ (rowForm fs r ∷ [])) rs ∙ simp length-append (omega arith)
 
-pub unpack-length : {A : Type 0} (e : Entry A) (n : ℕ) (t : List ℕ) → length (unpack e n t) ≡ n
-unfolding unpack
-unpack-length e zero t = refl
-unpack-length e (suc n) t = ap suc (unpack-length e n (drop (e .width) t))
-
 -- Thing i of the first n of a table.
 pub unpack-at : {A : Type 0} (e : Entry A) (n : ℕ) (t : List ℕ) (i : ℕ) (d : A) → i < n →
-    getD (unpack e n t) i d ≡ e .get (take (e .width) (drop (i * e .width) t))
+    getD (unpack e n t) i d ≡ e .get (take (e .width) (drop (e .width * i) t))
 unfolding unpack
 unpack-at e zero t i d h = absurd (not-suc-le-zero h)
-unpack-at e (suc n) t zero d h = ap (λ (k : ℕ). e .get (take (e .width) (drop k t))) (sym (zero-mul (e .width)))
+unpack-at e (suc n) t zero d h = ap (λ (k : ℕ). e .get (take (e .width) (drop k t))) (sym (mul-zero (e .width)))
 unpack-at e (suc n) t (suc i) d h =
-    let next : e .width + i * e .width ≡ suc i * e .width = omega arith in
+    let next : e .width + e .width * i ≡ e .width * suc i = omega arith in
     unpack-at e n (drop (e .width) t) i d (le-of-suc-le-suc h) ∙
-    ap (λ (l : List ℕ). e .get (take (e .width) l)) (drop-drop (i * e .width) (e .width) t ∙ ap (λ (k : ℕ). drop k t) next)
+    ap (λ (l : List ℕ). e .get (take (e .width) l)) (drop-drop (e .width * i) (e .width) t ∙ ap (λ (k : ℕ). drop k t) next)
 
 -- The row that stands at formula i of a table.
 abbrev pub formRow : List ℕ → ℕ → Row
 formRow t i = record { kind = getD t (3 * i) 0; left = getD t (3 * i + 1) 0; right = getD t (3 * i + 2) 0 }
 
 -- Number k of thing i, the things being w numbers wide.
-pub number-at : (t : List ℕ) (w i k m : ℕ) → k < w → i * w + k ≡ m → getD (take w (drop (i * w) t)) k 0 ≡ getD t m 0
-number-at t w i k m h e = getD-take w (drop (i * w) t) k 0 h ∙ getD-drop (i * w) t k 0 ∙ ap (λ (x : ℕ). getD t x 0) e
+pub number-at : (t : List ℕ) (w i k m : ℕ) → k < w → w * i + k ≡ m → getD (take w (drop (w * i) t)) k 0 ≡ getD t m 0
+number-at t w i k m h e = getD-take w (drop (w * i) t) k 0 h ∙ getD-drop (w * i) t k 0 ∙ ap (λ (x : ℕ). getD t x 0) e
 
-pub form-row : (t : List ℕ) (i : ℕ) → formEntry .get (take 3 (drop (i * 3) t)) ≡ formRow t i
+pub form-row : (t : List ℕ) (i : ℕ) → formEntry .get (take 3 (drop (3 * i) t)) ≡ formRow t i
 form-row t i =
     λ j.
     record {
@@ -67,7 +52,7 @@ form-row t i =
 
 -- The rows of a table, one more.
 pub form-rows : (t : List ℕ) (i : ℕ) → unpack formEntry (suc i) t ≡ unpack formEntry i t ++ (formRow t i ∷ [])
-form-rows t i = unpack-more formEntry i t ∙ ap (λ (r : Row). unpack formEntry i t ++ (r ∷ [])) (form-row t i)
+form-rows t i = unpack-turn formEntry i t ∙ ap (λ (r : Row). unpack formEntry i t ++ (r ∷ [])) (form-row t i)
 
 -- Below the length, what is read past the end does not matter.
 pub getD-any : (l : List ℕ) (i d e : ℕ) → i < length l → getD l i d ≡ getD l i e

@@ -1,16 +1,16 @@
 -- What is asked of each part of lent tables, in the order of the text.
-use Prim.Native.Nat.{ℕ, zero, suc, _*_}
-use mathlib.Core.List.{List, [], _∷_, _++_}
-use mathlib.Core.Bool.{Bool, true, false}
-use lib.Dec.{leb, ltb, eqb}
-use lib.ListN.{length, getD, drop}
+use Prim.Native.Nat.{ℕ, suc}
+use mathlib.Core.List.{List, [], _∷_}
+use mathlib.Core.Bool.{Bool}
+use lib.Dec.{ltb}
+use lib.ListN.{length, getD}
 use Rattle.scope.specs.Request.{Row}
 use Rattle.scope.specs.Answer.{Answer, answer}
-use Rattle.scope.specs.Limits.{principalsAt, atomsAt, formulasAt, formAt, clausesAt, clauseAt, goalAt, stepsAt, stepAt}
-use Rattle.scope.specs.Refusals.{demand, principalsRefusal, atomsRefusal, formulasRefusal, clausesRefusal, stepsRefusal, stepRefusal, rowRefusal}
+use Rattle.scope.specs.Limits.{principalsAt, atomsAt, formulasAt, formAt, clauseAt, goalAt, stepsAt, stepAt}
+use Rattle.scope.specs.Refusals.{demand, principalsRefusal, atomsRefusal, formulasRefusal, stepsRefusal, stepRefusal, rowRefusal}
 use Rattle.scope.specs.Kinds.{formKinds}
-use Rattle.scope.specs.Checked.{eachOf, pastZero}
-use Rattle.scope.specs.Tables.{Lent, hasRoom, unpack, formEntry, lineEntry, stepEntry}
+use Rattle.scope.specs.Checked.{eachOf}
+use Rattle.scope.specs.Tables.{hasRoom}
 use Rattle.classes.specs.Class.{goalIn, policyIn}
 
 unfoldable pub roomAnswers : ℕ → ℕ → ℕ → List Answer

@@ -1,6 +1,6 @@
 -- The answer of a check as the code gives it: `Fine`, which is document 01's number 0, or a refusal with its number and place.
 use Prim.Native.Nat.{ℕ, zero, suc}
-use mathlib.Core.List.{List, [], _∷_}
+use mathlib.Core.List.{List}
 use Rattle.scope.specs.Answer.{Answer, answer}
 use Rattle.scope.specs.Checked.{firstMet}
 use Rattle.scope.specs.Tables.{Lent}

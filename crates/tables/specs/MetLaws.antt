@@ -104,11 +104,15 @@ passed-all a i h p =
     let e : i ≡ length a = omega (arith, p .most) in
     ap met (sym (take-length a)) ∙ ap (λ (k : ℕ). met (take k a)) (sym e) ∙ p .fine
 
--- What a check of answer i gave is the answer to all, where it is a refusal; else one more is passed.
-pub passed-stop : (a : List Answer) (i : ℕ) (x : Answer) (g : Checked) (r : Refusal) → i < length a → Passed a i →
-    answerAt a i ≡ x → g ≡ checkedOf x → g ≡ Refused r → g ≡ met a
-passed-stop a i x g r h p e f k = k ∙ sym (passed-refused a i r h p (ap checkedOf e ∙ sym f ∙ k))
+-- A turn of a loop: the answers before i are fine, and g is what the check of answer i gave.
+pub record Turn (a : List Answer) (i : ℕ) (g : Checked) : Type 0 where
+  pub within : i < length a
+  pub passed : Passed a i
+  pub gave : g ≡ checkedOf (answerAt a i)
 
-pub passed-go : (a : List Answer) (i : ℕ) (x : Answer) (g : Checked) → i < length a → Passed a i →
-    answerAt a i ≡ x → g ≡ checkedOf x → g ≡ Fine → Passed a (i + 1)
-passed-go a i x g h p e f k = passed-more a i h p (ap checkedOf e ∙ sym f ∙ k)
+-- Where g is a refusal, it is the answer to all; else one more is passed.
+pub turn-stop : {a : List Answer} {i : ℕ} {g : Checked} {r : Refusal} → Turn a i g → g ≡ Refused r → g ≡ met a
+turn-stop {a} {i} {g} {r} t e = e ∙ sym (passed-refused a i r (t .within) (t .passed) (sym (t .gave) ∙ e))
+
+pub turn-go : {a : List Answer} {i : ℕ} {g : Checked} → Turn a i g → g ≡ Fine → Passed a (i + 1)
+turn-go {a} {i} t e = passed-more a i (t .within) (t .passed) (sym (t .gave) ∙ e)

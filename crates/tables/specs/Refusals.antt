@@ -1,15 +1,15 @@
 -- The refusals of a row, kind by kind.
-use Prim.Native.Nat.{ℕ, zero, suc, _≤_, _<_}
+use Prim.Native.Nat.{ℕ, zero, suc, _<_}
 use native.Mathlib.Omega.{arith}
-use mathlib.Core.Path.{_≡_, refl, ap, sym, _∙_}
-use mathlib.Core.List.{List, [], _∷_}
+use mathlib.Core.Path.{_≡_, refl}
+use mathlib.Core.List.{[], _∷_}
 use mathlib.Core.Bool.{Bool, true, false}
 use borrow.Author.Tests.{le-ltb, le-leb}
-use lib.Dec.{leb, ltb, eqb}
+use lib.Dec.{ltb, eqb}
 use lib.ListN.{getD}
 use Rattle.scope.specs.Form.{both}
 use Rattle.scope.specs.Request.{Row}
-use Rattle.scope.specs.Kinds.{formKinds, stepKinds}
+use Rattle.scope.specs.Kinds.{formKinds}
 use Rattle.scope.specs.Refusals.{demand, rowRefusal, stepRefusal}
 
 -- `p ATOM`: no second operand, and an atom below the count.

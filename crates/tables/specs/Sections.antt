@@ -2,16 +2,16 @@
 use Prim.Native.Nat.{ℕ, zero, suc, _+_, _*_, _<_, _≤_}
 use native.Mathlib.Nat.{not-suc-le-zero, le-of-suc-le-suc}
 use native.Mathlib.Omega.{arith}
-use mathlib.Core.Path.{_≡_, refl, ap, sym, _∙_}
+use mathlib.Core.Path.{_≡_, refl, ap, _∙_}
 use mathlib.Core.List.{List, [], _∷_, _++_}
-use mathlib.Core.Bool.{Bool, true, false}
+use mathlib.Core.Bool.{true, false}
 use lib.ListN.{length, getD, take, drop, length-append, drop-of-length-le}
 use lib.Seq.{drop-cons}
 use native.Mathlib.Numerals.{add-one}
 use borrow.Author.Tests.{ne-eqb}
 use Rattle.scope.specs.Request.{Row}
 use Rattle.scope.specs.Answer.{Answer, answer}
-use Rattle.scope.specs.Limits.{formAt, clauseAt, stepAt}
+use Rattle.scope.specs.Limits.{clauseAt, stepAt}
 use Rattle.scope.specs.Refusals.{stepRefusal}
 use Rattle.scope.specs.Checked.{eachOf, allZero}
 use Rattle.scope.specs.Tables.{Entry, unpack, formEntry, lineEntry, stepEntry}
@@ -43,7 +43,7 @@ module _ {A : Type 0} (e : Entry A) (f : ℕ → A → Answer) (n : ℕ) (t : Li
   pub section-length : length section ≡ n
   section-length = each-length (λ (b : List A). f (length b)) [] (unpack e n t) ∙ unpack-length e n t
 
-  pub section-at : (i : ℕ) → i < n → answerAt section i ≡ f i (e .get (take (e .width) (drop (i * e .width) t)))
+  pub section-at : (i : ℕ) → i < n → answerAt section i ≡ f i (e .get (take (e .width) (drop (e .width * i) t)))
   section-at i h =
       let x = e .get [] in
       let k : i < length (unpack e n t) = rw (unpack-length e n t) h in
@@ -73,7 +73,7 @@ line-at cs m n t i h =
 abbrev pub stepRow : List ℕ → ℕ → Row
 stepRow t i = record { kind = getD t (2 * i) 0; left = getD t (2 * i + 1) 0; right = 0 }
 
-pub step-row : (t : List ℕ) (i : ℕ) → stepEntry .get (take 2 (drop (i * 2) t)) ≡ stepRow t i
+pub step-row : (t : List ℕ) (i : ℕ) → stepEntry .get (take 2 (drop (2 * i) t)) ≡ stepRow t i
 step-row t i =
     λ j.
     record {

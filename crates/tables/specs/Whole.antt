@@ -1,5 +1,5 @@
 -- The checks of document 01 over lent tables, part by part: room, counts and formulas, policy lines, goal and steps, and what is past the counts.
-use Prim.Native.Nat.{ℕ, zero, suc, _*_, _≤_, _<_}
+use Prim.Native.Nat.{ℕ, _≤_, _<_}
 use native.Mathlib.Omega.{arith}
 use mathlib.Core.Path.{_≡_, refl, ap, sym, _∙_}
 use mathlib.Core.List.{List, [], _∷_, _++_, append-assoc, append-nil}
@@ -8,12 +8,12 @@ use borrow.Author.Tests.{ltb-true, leb-true}
 use lib.ListN.{length, getD}
 use lib.Dec.{leb, ltb}
 use Rattle.scope.specs.Form.{both}
-use Rattle.scope.specs.Request.{Row, goalClass, policyClass}
+use Rattle.scope.specs.Request.{goalClass, policyClass}
 use Rattle.scope.specs.Answer.{Answer, answer}
-use Rattle.scope.specs.Limits.{clausesAt, clauseAt, goalAt, stepsAt, stepAt, mostFormulas}
-use Rattle.scope.specs.Refusals.{demand, countRefusal, principalsRefusal, atomsRefusal, formulasRefusal, clausesRefusal, clauseRefusal, goalRefusal, stepsRefusal, stepRefusal, formRefusal}
+use Rattle.scope.specs.Limits.{clausesAt, clauseAt, goalAt, stepsAt, mostFormulas}
+use Rattle.scope.specs.Refusals.{demand, countRefusal, principalsRefusal, atomsRefusal, formulasRefusal, clausesRefusal, clauseRefusal, goalRefusal, stepsRefusal}
 use Rattle.scope.specs.Checked.{eachOf, firstMet, pastZero, checked}
-use Rattle.scope.specs.Tables.{Lent, unpack, formEntry, lineEntry, stepEntry}
+use Rattle.scope.specs.Tables.{Lent, hasRoom, unpack, formEntry, lineEntry, stepEntry}
 use Rattle.classes.specs.Class.{goalIn, policyIn, classTable}
 use Rattle.classes.specs.Rows.{unpack-length}
 use Rattle.classes.specs.Laws.{goal-at, policy-at}
@@ -155,6 +155,15 @@ formulas-within t e =
     met-back (answer (principalsRefusal (t .principals)) 2 ∷ answer (atomsRefusal (t .atoms)) 3 ∷ []) (answer (formulasRefusal (t .formulas)) 4 ∷ []) counts in
     let none = fine-none (formulasRefusal (t .formulas)) 4 (sym (met-one (answer (formulasRefusal (t .formulas)) 4)) ∙ fine) in
     leb-true (t .formulas) mostFormulas (count-go (leb 1 (t .formulas)) (leb (t .formulas) mostFormulas) none)
+
+-- A part of one answer.
+pub room-met : (t : Lent) (g : Checked) →
+    g ≡ checkedOf (answer (demand (hasRoom (length (t .formTable)) (length (t .lineTable)) (length (t .stepTable))) 13 0) 0) → g ≡ met (roomPart t)
+unfolding roomAnswers
+room-met t g e = e ∙ sym (met-one (answer (demand (hasRoom (length (t .formTable)) (length (t .lineTable)) (length (t .stepTable))) 13 0) 0))
+
+pub past-met : (t : Lent) (g : Checked) → g ≡ checkedOf (answer (demand (pastZero t) 3 0) 0) → g ≡ met (pastPart t)
+past-met t g e = e ∙ sym (met-one (answer (demand (pastZero t) 3 0) 0))
 
 -- Part by part: a part's refusal is the answer, where the parts before it are fine.
 module _ (t : Lent) (room : Checked) (roomed : room ≡ met (roomPart t)) where

@@ -1,17 +1,14 @@
 // The checks over counts and lent tables that writer and judge both make: 13; then 3, 4 or 5 at the line where the text would have it;
 // then 3 at place 0 for a nonzero entry past the counts. The first met is the answer.
 ghost use mathlib.Core.Path.{_≡_};
-ghost use mathlib.Core.List.{[], _∷_, _++_};
-ghost use lib.ListN.{length, getD, drop};
-ghost use Prim.Native.Nat.{suc};
+ghost use mathlib.Core.List.{[]};
+ghost use lib.ListN.{drop};
 ghost use Rattle.scope.specs.Answer.{answer};
-ghost use Rattle.scope.specs.Limits.{clausesAt, clauseAt, goalAt, stepsAt, stepAt};
-ghost use Rattle.scope.specs.Refusals.{demand, clausesRefusal, stepRefusal};
+ghost use Rattle.scope.specs.Refusals.{demand};
 ghost use Rattle.scope.specs.Checked.{allZero, pastZero, checked};
 ghost use Rattle.scope.specs.Tables.{hasRoom, unpack, formEntry, lineEntry, stepEntry};
-ghost use Rattle.classes.specs.Class.{goalIn, policyIn};
 ghost use Rattle.tables.specs.Met.{checkedOf, met, lentWith};
-ghost use Rattle.tables.specs.Answers.{countAnswers, formAnswer, formAnswers, classRefusal, lineAnswers, goalAnswers, stepAnswers};
+ghost use Rattle.tables.specs.Answers.{countAnswers, formAnswer, formAnswers, lineAnswers, stepAnswers};
 ghost use Rattle.tables.specs.Refusals.{row};
 ghost use Rattle.tables.specs.Whole.{formPart, linePart, stepPart};
 

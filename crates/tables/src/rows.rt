@@ -5,7 +5,7 @@ ghost use Rattle.scope.specs.Refusals.{demand, countRefusal, rowRefusal, stepRe
 ghost use Rattle.scope.specs.Kinds.{formKinds};
 ghost use Rattle.classes.specs.Class.{goalIn, policyIn};
 ghost use Rattle.tables.specs.Answers.{classRefusal};
-ghost use Rattle.tables.specs.Refusals.{row, atomRefusal, plainRefusal, partsRefusal, saysRefusal, sfRefusal, bareRefusal};
+ghost use Rattle.tables.specs.Refusals.{row, atomRefusal, plainRefusal, partsRefusal, saysRefusal, sfRefusal};
 
 pub(crate) fn demand_of(test: bool, number: u16, next: u16) -> u16
     ensures { λ r. ⌜ r ≡ demand test number next ⌝ }

@@ -1,7 +1,7 @@
 -- `classes::byte_of` meets its contract: a bit is at most 1, so the sum of the four is at most 15.
 use borrow.Author.Needs.{needs}
 use native.Mathlib.Omega.{arith}
-use Rattle.classes.specs.Class.{bit, classByte}
+use Rattle.classes.specs.Class.{classByte}
 use Rattle.classes.specs.Laws.{bit-small}
 use Rattle.classes.proofs.byte_of.Statement.{statement}
 use Rattle.classes.proofs.byte_of.Tie as tie

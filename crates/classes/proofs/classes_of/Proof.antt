@@ -1,10 +1,9 @@
 -- `classes::classes_of` meets its contract: in turn i the entries below i are the classes of the first i formulas, and row i adds its own.
 use borrow.Author.Needs.{needs}
 use native.Mathlib.Omega.{arith}
-use Prim.Native.Nat.{ℕ, _-_, _≤_, _*_, _+_}
-use lib.ListN.{getD, take, length}
-use mathlib.Core.Path.{_≡_, sym, _∙_}
-use Rattle.classes.specs.Class.{rowClass}
+use Prim.Native.Nat.{_-_, _≤_, _*_, _+_}
+use lib.ListN.{getD, take}
+use mathlib.Core.Path.{_≡_, sym}
 use Rattle.classes.proofs.Filling.{Filled, filled-none, filled-more, filled-whole}
 use Rattle.classes.proofs.classes_of.Statement.{statement}
 use Rattle.classes.proofs.classes_of.Tie as tie

@@ -1,6 +1,5 @@
 -- `tables::check_form` meets its contract: the refusal of the row, at the line of formula i.
 use borrow.Author.Needs.{needs}
-use mathlib.Core.Path.{_≡_}
 use Rattle.tables.proofs.check_form.Statement.{statement}
 use Rattle.tables.proofs.check_form.Tie as tie
 

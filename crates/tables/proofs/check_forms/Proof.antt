@@ -1,14 +1,12 @@
 -- `tables::check_forms` meets its contract: in turn i the answers about the first i formulas are fine, and answer i is that about row i.
 use borrow.Author.Needs.{needs}
 use native.Mathlib.Omega.{arith}
-use Prim.Native.Nat.{ℕ, _-_, _<_, _≤_, _*_, _+_}
-use mathlib.Core.Path.{_≡_, sym}
-use lib.ListN.{length, getD}
+use Prim.Native.Nat.{_-_, _≤_}
+use mathlib.Core.Path.{sym, ap, _∙_}
 use Rattle.scope.specs.Tables.{unpack, formEntry}
-use Rattle.classes.specs.Rows.{formRow}
 use Rattle.tables.specs.Met.{checkedOf}
-use Rattle.tables.specs.MetLaws.{Passed, passed-none, passed-stop, passed-go, passed-all}
-use Rattle.tables.specs.Answers.{formAnswer, formAnswers}
+use Rattle.tables.specs.MetLaws.{Passed, passed-none, passed-all, Turn, turn-stop, turn-go}
+use Rattle.tables.specs.Answers.{formAnswers}
 use Rattle.tables.specs.Sections.{forms-length, form-at}
 use Rattle.tables.proofs.check_forms.Statement.{statement}
 use Rattle.tables.proofs.check_forms.Tie as tie
@@ -54,17 +52,24 @@ enum-told c = search needs
 enum-told-2 : tie.Need-enum-told-2 Inv-loop μ-loop
 enum-told-2 c = search needs
 
+turn :
+    (c : tie.After-check-form Inv-loop μ-loop)
+    → let a = c .before .before .before .before .before .before .before .args in
+    Turn (formAnswers (a .principals) (a .atoms) (unpack formEntry (a .count) (a .forms .now))) (c .before .before .before .before .before .loop .i) (c .check-form .result)
+turn c =
+    let a = c .before .before .before .before .before .before .before .args in
+    let i = c .before .before .before .before .before .loop .i in
+    let more = c .before .before .before .before .loop-test .taken in
+    record {
+      within = rw (forms-length (a .principals) (a .atoms) (a .count) (a .forms .now)) more;
+      passed = c .before .before .before .before .before .loop .inv .1;
+      gave =
+          (rw (c .before .before .before .entry-at .ensures, c .before .before .entry-at2 .ensures, c .before .entry-at3 .ensures) at (c .check-form .ensures)) ∙
+          ap checkedOf (sym (form-at (a .principals) (a .atoms) (a .count) (a .forms .now) i more));
+    }
+
 returns : tie.Need-returns Inv-loop μ-loop
-returns c =
-    let a = c .before .before .before .before .before .before .before .before .before .args in
-    let t = a .forms .now in
-    let all = formAnswers (a .principals) (a .atoms) (unpack formEntry (a .count) t) in
-    let i = c .before .before .before .before .before .before .before .loop .i in
-    let h : i < length all = rw (forms-length (a .principals) (a .atoms) (a .count) t) (c .before .before .before .before .before .before .loop-test .taken) in
-    let g : c .before .before .check-form .result ≡ checkedOf (formAnswer (a .principals) (a .atoms) i (formRow t i)) =
-    rw (c .before .before .before .before .before .entry-at .ensures, c .before .before .before .before .entry-at2 .ensures, c .before .before .before .entry-at3 .ensures) at (c .before .before .check-form .ensures) in
-    passed-stop all i (formAnswer (a .principals) (a .atoms) i (formRow t i)) (c .before .before .check-form .result) (c .enum-told2 .given .0 .0) h
-    (c .before .before .before .before .before .before .before .loop .inv .1) (form-at (a .principals) (a .atoms) (a .count) t i (c .before .before .before .before .before .before .loop-test .taken)) g (c .enum-told2 .given .1)
+returns c = turn-stop (turn (c .before .before)) (c .enum-told2 .given .1)
 
 add-i : tie.Need-add-i Inv-loop μ-loop
 add-i c = search needs
@@ -73,25 +78,13 @@ loop-less : tie.Need-loop-less Inv-loop μ-loop
 loop-less c = search needs
 
 loop-again : tie.Need-loop-again Inv-loop μ-loop
-loop-again c =
-    let a = c .before .before .before .before .before .before .before .before .before .args in
-    let t = a .forms .now in
-    let all = formAnswers (a .principals) (a .atoms) (unpack formEntry (a .count) t) in
-    let i = c .before .before .before .before .before .before .before .loop .i in
-    let h : i < length all = rw (forms-length (a .principals) (a .atoms) (a .count) t) (c .before .before .before .before .before .before .loop-test .taken) in
-    let g : c .before .before .check-form .result ≡ checkedOf (formAnswer (a .principals) (a .atoms) i (formRow t i)) =
-    rw (c .before .before .before .before .before .entry-at .ensures, c .before .before .before .before .entry-at2 .ensures, c .before .before .before .entry-at3 .ensures) at (c .before .before .check-form .ensures) in (
-      omega arith,
-      passed-go all i (formAnswer (a .principals) (a .atoms) i (formRow t i)) (c .before .before .check-form .result) h
-          (c .before .before .before .before .before .before .before .loop .inv .1) (form-at (a .principals) (a .atoms) (a .count) t i (c .before .before .before .before .before .before .loop-test .taken)) g (c .enum-told .given .1),
-    )
+loop-again c = (omega arith, turn-go (turn (c .before .before)) (c .enum-told .given .1))
 
 returns-2 : tie.Need-returns-2 Inv-loop μ-loop
 returns-2 c =
     let a = c .before .before .before .args in
     let all = formAnswers (a .principals) (a .atoms) (unpack formEntry (a .count) (a .forms .now)) in
-    let h : length all ≤ c .before .loop .i = rw (forms-length (a .principals) (a .atoms) (a .count) (a .forms .now)) (c .loop-test .left) in
-    sym (passed-all all (c .before .loop .i) h (c .before .loop .inv .1))
+    sym (passed-all all (c .before .loop .i) (rw (forms-length (a .principals) (a .atoms) (a .count) (a .forms .now)) (c .loop-test .left)) (c .before .loop .inv .1))
 
 pub check-forms-spec : {M : Type 1} → statement M
 check-forms-spec =

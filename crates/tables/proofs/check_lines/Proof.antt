@@ -1,15 +1,12 @@
--- `tables::check_lines` meets its contract: in turn i the answers about the first i policy lines are fine, and answer i is that about line i.
+-- `tables::check_lines` meets its contract: in turn i the answers about the first i policy lines are fine, and answer i is that about row i.
 use borrow.Author.Needs.{needs}
 use native.Mathlib.Omega.{arith}
-use Prim.Native.Nat.{ℕ, _-_, _<_, _≤_, _+_}
-use mathlib.Core.Path.{_≡_, sym}
-use lib.ListN.{length, getD}
-use Rattle.scope.specs.Answer.{answer}
+use Prim.Native.Nat.{_-_, _≤_}
+use mathlib.Core.Path.{sym, ap, _∙_}
 use Rattle.scope.specs.Tables.{unpack, lineEntry}
-use Rattle.classes.specs.Class.{policyIn}
 use Rattle.tables.specs.Met.{checkedOf}
-use Rattle.tables.specs.MetLaws.{Passed, passed-none, passed-stop, passed-go, passed-all}
-use Rattle.tables.specs.Answers.{classRefusal, lineAnswers}
+use Rattle.tables.specs.MetLaws.{Passed, passed-none, passed-all, Turn, turn-stop, turn-go}
+use Rattle.tables.specs.Answers.{lineAnswers}
 use Rattle.tables.specs.Sections.{lines-length, line-at}
 use Rattle.tables.proofs.check_lines.Statement.{statement}
 use Rattle.tables.proofs.check_lines.Tie as tie
@@ -52,19 +49,24 @@ enum-told c = search needs
 enum-told-2 : tie.Need-enum-told-2 Inv-loop μ-loop
 enum-told-2 c = search needs
 
+turn :
+    (c : tie.After-answer-at Inv-loop μ-loop)
+    → let a = c .before .before .before .before .before .before .before .args in
+    Turn (lineAnswers (a .classes .now) (a .formulas) (unpack lineEntry (a .count) (a .lines .now))) (c .before .before .before .before .loop .i) (c .answer-at .result)
+turn c =
+    let a = c .before .before .before .before .before .before .before .args in
+    let i = c .before .before .before .before .loop .i in
+    let more = c .before .before .before .loop-test .taken in
+    record {
+      within = rw (lines-length (a .classes .now) (a .formulas) (a .count) (a .lines .now)) more;
+      passed = c .before .before .before .before .loop .inv .1;
+      gave =
+          (rw (c .before .before .entry-at .ensures) at (rw (c .before .line-refusal .ensures) at (c .answer-at .ensures))) ∙
+          ap checkedOf (sym (line-at (a .classes .now) (a .formulas) (a .count) (a .lines .now) i more));
+    }
+
 returns : tie.Need-returns Inv-loop μ-loop
-returns c =
-    let a = c .before .before .before .before .before .before .before .before .before .args in
-    let cs = a .classes .now in
-    let t = a .lines .now in
-    let all = lineAnswers cs (a .formulas) (unpack lineEntry (a .count) t) in
-    let i = c .before .before .before .before .before .before .loop .i in
-    let about = answer (classRefusal policyIn cs (a .formulas) (getD t i 0)) (6 + a .formulas + i) in
-    let h : i < length all = rw (lines-length cs (a .formulas) (a .count) t) (c .before .before .before .before .before .loop-test .taken) in
-    let g : c .before .before .answer-at .result ≡ checkedOf about =
-    rw (c .before .before .before .before .entry-at .ensures) at (rw (c .before .before .before .line-refusal .ensures) at (c .before .before .answer-at .ensures)) in
-    passed-stop all i about (c .before .before .answer-at .result) (c .enum-told2 .given .0 .0) h (c .before .before .before .before .before .before .loop .inv .1)
-    (line-at cs (a .formulas) (a .count) t i (c .before .before .before .before .before .loop-test .taken)) g (c .enum-told2 .given .1)
+returns c = turn-stop (turn (c .before .before)) (c .enum-told2 .given .1)
 
 add-i : tie.Need-add-i Inv-loop μ-loop
 add-i c = search needs
@@ -73,27 +75,13 @@ loop-less : tie.Need-loop-less Inv-loop μ-loop
 loop-less c = search needs
 
 loop-again : tie.Need-loop-again Inv-loop μ-loop
-loop-again c =
-    let a = c .before .before .before .before .before .before .before .before .before .args in
-    let cs = a .classes .now in
-    let t = a .lines .now in
-    let all = lineAnswers cs (a .formulas) (unpack lineEntry (a .count) t) in
-    let i = c .before .before .before .before .before .before .loop .i in
-    let about = answer (classRefusal policyIn cs (a .formulas) (getD t i 0)) (6 + a .formulas + i) in
-    let h : i < length all = rw (lines-length cs (a .formulas) (a .count) t) (c .before .before .before .before .before .loop-test .taken) in
-    let g : c .before .before .answer-at .result ≡ checkedOf about =
-    rw (c .before .before .before .before .entry-at .ensures) at (rw (c .before .before .before .line-refusal .ensures) at (c .before .before .answer-at .ensures)) in (
-      omega arith,
-      passed-go all i about (c .before .before .answer-at .result) h (c .before .before .before .before .before .before .loop .inv .1)
-          (line-at cs (a .formulas) (a .count) t i (c .before .before .before .before .before .loop-test .taken)) g (c .enum-told .given .1),
-    )
+loop-again c = (omega arith, turn-go (turn (c .before .before)) (c .enum-told .given .1))
 
 returns-2 : tie.Need-returns-2 Inv-loop μ-loop
 returns-2 c =
     let a = c .before .before .before .before .args in
     let all = lineAnswers (a .classes .now) (a .formulas) (unpack lineEntry (a .count) (a .lines .now)) in
-    let h : length all ≤ c .before .loop .i = rw (lines-length (a .classes .now) (a .formulas) (a .count) (a .lines .now)) (c .loop-test .left) in
-    sym (passed-all all (c .before .loop .i) h (c .before .loop .inv .1))
+    sym (passed-all all (c .before .loop .i) (rw (lines-length (a .classes .now) (a .formulas) (a .count) (a .lines .now)) (c .loop-test .left)) (c .before .loop .inv .1))
 
 pub check-lines-spec : {M : Type 1} → statement M
 check-lines-spec =

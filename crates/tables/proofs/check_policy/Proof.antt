@@ -1,7 +1,7 @@
 -- `tables::check_policy` meets its contract: the count comes first, and where it is fine the lines decide.
 use borrow.Author.Needs.{needs}
 use Prim.Native.Nat.{_+_}
-use mathlib.Core.Path.{_≡_, sym, _∙_}
+use mathlib.Core.Path.{_≡_, _∙_}
 use Rattle.scope.specs.Answer.{answer}
 use Rattle.scope.specs.Refusals.{clausesRefusal}
 use Rattle.scope.specs.Tables.{unpack, lineEntry}

@@ -1,17 +1,14 @@
 -- `tables::check_steps` meets its contract: in turn i the answers about the first i steps are fine, and answer i is that about row i.
 use borrow.Author.Needs.{needs}
 use native.Mathlib.Omega.{arith}
-use Prim.Native.Nat.{ℕ, suc, _-_, _<_, _≤_, _+_}
-use mathlib.Core.Path.{_≡_, sym}
-use lib.ListN.{length}
-use Rattle.scope.specs.Answer.{answer}
+use Prim.Native.Nat.{suc, _-_, _≤_, _+_}
+use mathlib.Core.Path.{_≡_, sym, ap, _∙_}
 use Rattle.scope.specs.Limits.{stepAt}
-use Rattle.scope.specs.Refusals.{stepRefusal}
 use Rattle.scope.specs.Tables.{unpack, stepEntry}
 use Rattle.tables.specs.Met.{checkedOf}
-use Rattle.tables.specs.MetLaws.{Passed, passed-none, passed-stop, passed-go, passed-all}
+use Rattle.tables.specs.MetLaws.{Passed, passed-none, passed-all, Turn, turn-stop, turn-go}
 use Rattle.tables.specs.Answers.{stepAnswers}
-use Rattle.tables.specs.Sections.{stepRow, steps-length, step-at}
+use Rattle.tables.specs.Sections.{steps-length, step-at}
 use Rattle.tables.proofs.check_steps.Statement.{statement}
 use Rattle.tables.proofs.check_steps.Tie as tie
 
@@ -65,19 +62,25 @@ enum-told c = search needs
 enum-told-2 : tie.Need-enum-told-2 Inv-loop μ-loop
 enum-told-2 c = search needs
 
-returns : tie.Need-returns Inv-loop μ-loop
-returns c =
-    let a = c .before .before .before .before .before .before .before .before .before .args in
-    let t = a .steps .now in
-    let all = stepAnswers (a .formulas) (a .lines) (unpack stepEntry (a .count) t) in
-    let i = c .before .before .before .before .before .before .before .loop .i in
-    let about = answer (stepRefusal (stepRow t i)) (stepAt (a .formulas) (a .lines) (suc i)) in
+turn :
+    (c : tie.After-answer-at Inv-loop μ-loop)
+    → let a = c .before .before .before .before .before .before .before .args in
+    Turn (stepAnswers (a .formulas) (a .lines) (unpack stepEntry (a .count) (a .steps .now))) (c .before .before .before .before .before .loop .i) (c .answer-at .result)
+turn c =
+    let a = c .before .before .before .before .before .before .before .args in
+    let i = c .before .before .before .before .before .loop .i in
+    let more = c .before .before .before .before .loop-test .taken in
     let place : 8 + a .formulas + a .lines + i ≡ stepAt (a .formulas) (a .lines) (suc i) = omega arith in
-    let h : i < length all = rw (steps-length (a .formulas) (a .lines) (a .count) t) (c .before .before .before .before .before .before .loop-test .taken) in
-    let g : c .before .before .answer-at .result ≡ checkedOf about =
-    rw (c .before .before .before .before .before .entry-at .ensures, c .before .before .before .before .entry-at2 .ensures, place) at (rw (c .before .before .before .step-refusal .ensures) at (c .before .before .answer-at .ensures)) in
-    passed-stop all i about (c .before .before .answer-at .result) (c .enum-told2 .given .0 .0) h (c .before .before .before .before .before .before .before .loop .inv .1)
-    (step-at (a .formulas) (a .lines) (a .count) t i (c .before .before .before .before .before .before .loop-test .taken)) g (c .enum-told2 .given .1)
+    record {
+      within = rw (steps-length (a .formulas) (a .lines) (a .count) (a .steps .now)) more;
+      passed = c .before .before .before .before .before .loop .inv .1;
+      gave =
+          (rw (c .before .before .before .entry-at .ensures, c .before .before .entry-at2 .ensures, place) at (rw (c .before .step-refusal .ensures) at (c .answer-at .ensures))) ∙
+          ap checkedOf (sym (step-at (a .formulas) (a .lines) (a .count) (a .steps .now) i more));
+    }
+
+returns : tie.Need-returns Inv-loop μ-loop
+returns c = turn-stop (turn (c .before .before)) (c .enum-told2 .given .1)
 
 add-i : tie.Need-add-i Inv-loop μ-loop
 add-i c = search needs
@@ -86,27 +89,13 @@ loop-less : tie.Need-loop-less Inv-loop μ-loop
 loop-less c = search needs
 
 loop-again : tie.Need-loop-again Inv-loop μ-loop
-loop-again c =
-    let a = c .before .before .before .before .before .before .before .before .before .args in
-    let t = a .steps .now in
-    let all = stepAnswers (a .formulas) (a .lines) (unpack stepEntry (a .count) t) in
-    let i = c .before .before .before .before .before .before .before .loop .i in
-    let about = answer (stepRefusal (stepRow t i)) (stepAt (a .formulas) (a .lines) (suc i)) in
-    let place : 8 + a .formulas + a .lines + i ≡ stepAt (a .formulas) (a .lines) (suc i) = omega arith in
-    let h : i < length all = rw (steps-length (a .formulas) (a .lines) (a .count) t) (c .before .before .before .before .before .before .loop-test .taken) in
-    let g : c .before .before .answer-at .result ≡ checkedOf about =
-    rw (c .before .before .before .before .before .entry-at .ensures, c .before .before .before .before .entry-at2 .ensures, place) at (rw (c .before .before .before .step-refusal .ensures) at (c .before .before .answer-at .ensures)) in (
-      omega arith,
-      passed-go all i about (c .before .before .answer-at .result) h (c .before .before .before .before .before .before .before .loop .inv .1)
-          (step-at (a .formulas) (a .lines) (a .count) t i (c .before .before .before .before .before .before .loop-test .taken)) g (c .enum-told .given .1),
-    )
+loop-again c = (omega arith, turn-go (turn (c .before .before)) (c .enum-told .given .1))
 
 returns-2 : tie.Need-returns-2 Inv-loop μ-loop
 returns-2 c =
     let a = c .before .before .before .args in
     let all = stepAnswers (a .formulas) (a .lines) (unpack stepEntry (a .count) (a .steps .now)) in
-    let h : length all ≤ c .before .loop .i = rw (steps-length (a .formulas) (a .lines) (a .count) (a .steps .now)) (c .loop-test .left) in
-    sym (passed-all all (c .before .loop .i) h (c .before .loop .inv .1))
+    sym (passed-all all (c .before .loop .i) (rw (steps-length (a .formulas) (a .lines) (a .count) (a .steps .now)) (c .loop-test .left)) (c .before .loop .inv .1))
 
 pub check-steps-spec : {M : Type 1} → statement M
 check-steps-spec =

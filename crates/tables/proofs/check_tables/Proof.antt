@@ -1,18 +1,12 @@
 -- `tables::check_tables` meets its contract: part by part, a refusal is the answer where the parts before it are fine, and what is past the
 -- counts decides last.
 use borrow.Author.Needs.{needs}
-use mathlib.Core.Path.{_≡_, sym, _∙_}
+use mathlib.Core.Path.{_≡_, _∙_}
 use mathlib.Core.List.{_++_}
-use lib.ListN.{length}
-use Rattle.scope.specs.Answer.{answer}
-use Rattle.scope.specs.Refusals.{demand}
-use Rattle.scope.specs.Tables.{hasRoom}
-use Rattle.scope.specs.Checked.{checked, pastZero}
 use Rattle.classes.specs.Class.{classTable}
-use Rattle.tables.specs.Met.{checkedOf, met, lentWith}
-use Rattle.tables.specs.MetLaws.{met-one, met-stop, met-go}
-use Rattle.tables.specs.Answers.{roomAnswers}
-use Rattle.tables.specs.Whole.{roomPart, formPart, linePart, stepPart, pastPart, room-stop, forms-stop, after-forms}
+use Rattle.tables.specs.Met.{met, lentWith}
+use Rattle.tables.specs.MetLaws.{met-stop, met-go}
+use Rattle.tables.specs.Whole.{roomPart, linePart, stepPart, pastPart, room-met, room-stop, forms-stop, past-met, after-forms}
 use Rattle.tables.proofs.check_tables.Statement.{statement}
 use Rattle.tables.proofs.check_tables.Tie as tie
 
@@ -29,12 +23,11 @@ enum-told-2 : tie.Need-enum-told-2
 enum-told-2 c = search needs
 
 returns : tie.Need-returns
-unfolding roomAnswers
 returns c =
     let a = c .before .before .before .before .before .before .before .args in
     let t = lentWith (a .counts) (a .forms .now) (a .lines .now) (a .steps .now) in
     let room = c .before .before .answer-at in
-    let roomed : room .result ≡ met (roomPart t) = rw (c .before .before .before .room-refusal .ensures) at (room .ensures) ∙ sym (met-one (answer (demand (hasRoom (length (a .forms .now)) (length (a .lines .now)) (length (a .steps .now))) 13 0) 0)) in
+    let roomed : room .result ≡ met (roomPart t) = room-met t (room .result) (rw (c .before .before .before .room-refusal .ensures) at (room .ensures)) in
     room-stop t (room .result) roomed (c .enum-told2 .given .0 .0) (c .enum-told2 .given .1)
 
 check-formulas-requires : tie.Need-check-formulas-requires
@@ -47,12 +40,11 @@ enum-told-4 : tie.Need-enum-told-4
 enum-told-4 c = search needs
 
 returns-2 : tie.Need-returns-2
-unfolding roomAnswers
 returns-2 c =
     let a = c .before .before .before .before .before .before .before .before .before .before .args in
     let t = lentWith (a .counts) (a .forms .now) (a .lines .now) (a .steps .now) in
     let room = c .before .before .before .before .before .answer-at in
-    let roomed : room .result ≡ met (roomPart t) = rw (c .before .before .before .before .before .before .room-refusal .ensures) at (room .ensures) ∙ sym (met-one (answer (demand (hasRoom (length (a .forms .now)) (length (a .lines .now)) (length (a .steps .now))) 13 0) 0)) in
+    let roomed : room .result ≡ met (roomPart t) = room-met t (room .result) (rw (c .before .before .before .before .before .before .room-refusal .ensures) at (room .ensures)) in
     let forms = c .before .before .check-formulas in
     forms-stop t (room .result) roomed (c .before .before .before .enum-told .given .1) (forms .result) (forms .ensures) (c .enum-told4 .given .0 .0) (c .enum-told4 .given .1)
 
@@ -72,17 +64,16 @@ enum-told-6 : tie.Need-enum-told-6
 enum-told-6 c = search needs
 
 returns-3 : tie.Need-returns-3
-unfolding roomAnswers
 returns-3 c =
     let a = c .before .before .before .before .before .before .before .before .before .before .before .before .before .before .before .args in
     let t = lentWith (a .counts) (a .forms .now) (a .lines .now) (a .steps .now) in
     let room = c .before .before .before .before .before .before .before .before .before .before .answer-at in
-    let roomed : room .result ≡ met (roomPart t) = rw (c .before .before .before .before .before .before .before .before .before .before .before .room-refusal .ensures) at (room .ensures) ∙ sym (met-one (answer (demand (hasRoom (length (a .forms .now)) (length (a .lines .now)) (length (a .steps .now))) 13 0) 0)) in
+    let roomed : room .result ≡ met (roomPart t) = room-met t (room .result) (rw (c .before .before .before .before .before .before .before .before .before .before .before .room-refusal .ensures) at (room .ensures)) in
     let forms = c .before .before .before .before .before .before .before .check-formulas in
     let classes = classTable (a .forms .now) (a .counts .formulas) in
-    let rest : met (linePart t classes ++ (stepPart t classes ++ pastPart t)) ≡ checkedOf (checked t) =
-    after-forms t (room .result) roomed (c .before .before .before .before .before .before .before .before .enum-told .given .1) (forms .result) (forms .ensures) (c .before .before .before .before .before .enum-told3 .given .1) in
-    let policy : c .before .before .check-policy .result ≡ met (linePart t classes) = rw (c .before .before .before .before .classes-of .ensures) at (c .before .before .check-policy .ensures) in
+    let rest = after-forms t (room .result) roomed (c .before .before .before .before .before .before .before .before .enum-told .given .1) (forms .result) (forms .ensures) (c .before .before .before .before .before .enum-told3 .given .1) in
+    let same = c .before .before .before .before .classes-of .ensures in
+    let policy : c .before .before .check-policy .result ≡ met (linePart t classes) = rw same at (c .before .before .check-policy .ensures) in
     met-stop (linePart t classes) (stepPart t classes ++ pastPart t) (c .before .before .check-policy .result) (c .enum-told6 .given .0 .0) policy (c .enum-told6 .given .1) ∙ rest
 
 slice-aggregate-check-proof : tie.Need-slice-aggregate-check-proof
@@ -98,18 +89,17 @@ enum-told-8 : tie.Need-enum-told-8
 enum-told-8 c = search needs
 
 returns-4 : tie.Need-returns-4
-unfolding roomAnswers
 returns-4 c =
     let a = c .before .before .before .before .before .before .before .before .before .before .before .before .before .before .before .before .before .before .before .args in
     let t = lentWith (a .counts) (a .forms .now) (a .lines .now) (a .steps .now) in
     let room = c .before .before .before .before .before .before .before .before .before .before .before .before .before .before .answer-at in
-    let roomed : room .result ≡ met (roomPart t) = rw (c .before .before .before .before .before .before .before .before .before .before .before .before .before .before .before .room-refusal .ensures) at (room .ensures) ∙ sym (met-one (answer (demand (hasRoom (length (a .forms .now)) (length (a .lines .now)) (length (a .steps .now))) 13 0) 0)) in
+    let roomed : room .result ≡ met (roomPart t) = room-met t (room .result) (rw (c .before .before .before .before .before .before .before .before .before .before .before .before .before .before .before .room-refusal .ensures) at (room .ensures)) in
     let forms = c .before .before .before .before .before .before .before .before .before .before .before .check-formulas in
     let classes = classTable (a .forms .now) (a .counts .formulas) in
-    let rest : met (linePart t classes ++ (stepPart t classes ++ pastPart t)) ≡ checkedOf (checked t) =
-    after-forms t (room .result) roomed (c .before .before .before .before .before .before .before .before .before .before .before .before .enum-told .given .1) (forms .result) (forms .ensures) (c .before .before .before .before .before .before .before .before .before .enum-told3 .given .1) in
-    let policy : c .before .before .before .before .before .before .check-policy .result ≡ met (linePart t classes) = rw (c .before .before .before .before .before .before .before .before .classes-of .ensures) at (c .before .before .before .before .before .before .check-policy .ensures) in
-    let proof : c .before .before .check-proof .result ≡ met (stepPart t classes) = rw (c .before .before .before .before .before .before .before .before .classes-of .ensures) at (c .before .before .check-proof .ensures) in
+    let rest = after-forms t (room .result) roomed (c .before .before .before .before .before .before .before .before .before .before .before .before .enum-told .given .1) (forms .result) (forms .ensures) (c .before .before .before .before .before .before .before .before .before .enum-told3 .given .1) in
+    let same = c .before .before .before .before .before .before .before .before .classes-of .ensures in
+    let policy : c .before .before .before .before .before .before .check-policy .result ≡ met (linePart t classes) = rw same at (c .before .before .before .before .before .before .check-policy .ensures) in
+    let proof : c .before .before .check-proof .result ≡ met (stepPart t classes) = rw same at (c .before .before .check-proof .ensures) in
     met-stop (stepPart t classes) (pastPart t) (c .before .before .check-proof .result) (c .enum-told8 .given .0 .0) proof (c .enum-told8 .given .1) ∙
     met-go (linePart t classes) (stepPart t classes ++ pastPart t) (c .before .before .before .before .before .before .check-policy .result) policy (c .before .before .before .before .enum-told5 .given .1) ∙
     rest
@@ -121,20 +111,18 @@ answer-at-requires-2 : tie.Need-answer-at-requires-2
 answer-at-requires-2 c κs = search needs
 
 returns-5 : tie.Need-returns-5
-unfolding roomAnswers
 returns-5 c =
     let a = c .before .before .before .before .before .before .before .before .before .before .before .before .before .before .before .before .before .before .before .before .before .args in
     let t = lentWith (a .counts) (a .forms .now) (a .lines .now) (a .steps .now) in
     let room = c .before .before .before .before .before .before .before .before .before .before .before .before .before .before .before .before .answer-at in
-    let roomed : room .result ≡ met (roomPart t) = rw (c .before .before .before .before .before .before .before .before .before .before .before .before .before .before .before .before .before .room-refusal .ensures) at (room .ensures) ∙ sym (met-one (answer (demand (hasRoom (length (a .forms .now)) (length (a .lines .now)) (length (a .steps .now))) 13 0) 0)) in
+    let roomed : room .result ≡ met (roomPart t) = room-met t (room .result) (rw (c .before .before .before .before .before .before .before .before .before .before .before .before .before .before .before .before .before .room-refusal .ensures) at (room .ensures)) in
     let forms = c .before .before .before .before .before .before .before .before .before .before .before .before .before .check-formulas in
     let classes = classTable (a .forms .now) (a .counts .formulas) in
-    let rest : met (linePart t classes ++ (stepPart t classes ++ pastPart t)) ≡ checkedOf (checked t) =
-    after-forms t (room .result) roomed (c .before .before .before .before .before .before .before .before .before .before .before .before .before .before .enum-told .given .1) (forms .result) (forms .ensures) (c .before .before .before .before .before .before .before .before .before .before .before .enum-told3 .given .1) in
-    let policy : c .before .before .before .before .before .before .before .before .check-policy .result ≡ met (linePart t classes) = rw (c .before .before .before .before .before .before .before .before .before .before .classes-of .ensures) at (c .before .before .before .before .before .before .before .before .check-policy .ensures) in
-    let proof : c .before .before .before .before .check-proof .result ≡ met (stepPart t classes) = rw (c .before .before .before .before .before .before .before .before .before .before .classes-of .ensures) at (c .before .before .before .before .check-proof .ensures) in
-    let past : c .answer-at2 .result ≡ met (pastPart t) = rw (c .before .past-refusal .ensures) at (c .answer-at2 .ensures) ∙ sym (met-one (answer (demand (pastZero t) 3 0) 0)) in
-    past ∙
+    let rest = after-forms t (room .result) roomed (c .before .before .before .before .before .before .before .before .before .before .before .before .before .before .enum-told .given .1) (forms .result) (forms .ensures) (c .before .before .before .before .before .before .before .before .before .before .before .enum-told3 .given .1) in
+    let same = c .before .before .before .before .before .before .before .before .before .before .classes-of .ensures in
+    let policy : c .before .before .before .before .before .before .before .before .check-policy .result ≡ met (linePart t classes) = rw same at (c .before .before .before .before .before .before .before .before .check-policy .ensures) in
+    let proof : c .before .before .before .before .check-proof .result ≡ met (stepPart t classes) = rw same at (c .before .before .before .before .check-proof .ensures) in
+    past-met t (c .answer-at2 .result) (rw (c .before .past-refusal .ensures) at (c .answer-at2 .ensures)) ∙
     met-go (stepPart t classes) (pastPart t) (c .before .before .before .before .check-proof .result) proof (c .before .before .enum-told7 .given .1) ∙
     met-go (linePart t classes) (stepPart t classes ++ pastPart t) (c .before .before .before .before .before .before .before .before .check-policy .result) policy (c .before .before .before .before .before .before .enum-told5 .given .1) ∙
     rest

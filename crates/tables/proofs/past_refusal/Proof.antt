@@ -1,6 +1,5 @@
 -- `tables::past_refusal` meets its contract: the three demands are one demand that all three hold.
 use borrow.Author.Needs.{needs}
-use mathlib.Core.Path.{_≡_, sym, _∙_}
 use Rattle.scope.specs.Checked.{pastZero}
 use Rattle.tables.specs.Refusals.{demand-both}
 use Rattle.tables.proofs.past_refusal.Statement.{statement}

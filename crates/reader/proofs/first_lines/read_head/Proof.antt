@@ -1,0 +1,240 @@
+-- `reader::first_lines::read_head` meets its contract: each line is read from the rest behind the one before it, and the first refusal is the answer.
+use mathlib.Core.Path.{_≡_, ap, sym, _∙_}
+use lib.ListN.{length}
+use Rattle.scope.specs.Limits.{versionAt, principalsAt, atomsAt, formulasAt}
+use Rattle.scope.specs.Refusals.{versionRefusal, principalsRefusal, atomsRefusal, formulasRefusal}
+use Rattle.reader.specs.Sections.{headPart}
+use Rattle.reader.specs.Answers.{refusalIs, numberRefusal}
+use Rattle.scope.specs.Bytes.{bytes}
+use Rattle.scope.specs.Number.{number}
+use Rattle.lines.specs.Parts.{valueOf}
+use Rattle.reader.specs.Lines.{number-ok, number-bad, count-most}
+use Rattle.reader.specs.Turns.{rest-short, head-1, head-2, head-3, head-4, head-5, head-refused, head-read}
+use Rattle.reader.specs.declared.Head.the-variants as Head
+use borrow.Author.Needs.{needs}
+use native.Mathlib.Omega.{arith}
+use Rattle.reader.proofs.first_lines.read_head.Statement.{statement}
+use Rattle.reader.proofs.first_lines.read_head.Tie as tie
+
+slice-aggregate-count-line : tie.Need-slice-aggregate-count-line
+slice-aggregate-count-line c = search needs
+
+count-line-requires : tie.Need-count-line-requires
+count-line-requires c κs = search needs
+
+enum-told : tie.Need-enum-told
+enum-told c = search needs
+
+enum-told-2 : tie.Need-enum-told-2
+enum-told-2 c = search needs
+
+number-refused-requires : tie.Need-number-refused-requires
+number-refused-requires c κs = search needs
+
+returns : tie.Need-returns
+returns c = let t = c .before .before .before .before .before .before .args .text .now in
+    let k = c .before .enum-told2 .given .0 .0 in
+    let b = number-bad "version=" versionRefusal versionAt t k
+    (sym (c .before .before .before .count-line .ensures) ∙ c .before .enum-told2 .given .1) in
+    let r : c .number-refused .result ≡ refusalIs k 1 = c .number-refused .ensures ∙ ap (λ l. refusalIs (numberRefusal l) 1)
+    (c .before .enum-told2 .given .1) in
+    (ap Head.Refused r ∙ head-refused (length t) (headPart t) k 1 (head-1 t k 1 b), omega arith)
+
+rest-of-requires : tie.Need-rest-of-requires
+rest-of-requires c κs = search needs
+
+slice-aggregate-count-line-2 : tie.Need-slice-aggregate-count-line-2
+slice-aggregate-count-line-2 c = search needs
+
+count-line-requires-2 : tie.Need-count-line-requires-2
+count-line-requires-2 c κs = search needs
+
+enum-known-principals : tie.Need-enum-known-principals
+enum-known-principals c = search needs
+
+enum-told-3 : tie.Need-enum-told-3
+enum-told-3 c = search needs
+
+number-refused-requires-2 : tie.Need-number-refused-requires-2
+number-refused-requires-2 c κs = search needs
+
+returns-2 : tie.Need-returns-2
+returns-2 c = let t = c .before .before .before .before .before .before .before .before .before .before .before .args .text .now in
+    let s1 = c .before .before .before .before .before .rest-of .result .now in
+    let v = c .before .before .before .before .before .before .enum-told .given .0 .0 in
+    let e1 = number-ok "version=" versionRefusal versionAt t s1 v (c .before .before .before .before .before .rest-of .ensures)
+    (sym (c .before .before .before .before .before .before .before .before .count-line .ensures) ∙
+    c .before .before .before .before .before .before .enum-told .given .1) in
+    let k = c .before .enum-told3 .given .0 .0 in
+    let b = number-bad "principals=" principalsRefusal principalsAt s1 k
+    (sym (c .before .before .before .count-line2 .ensures) ∙ c .before .enum-told3 .given .1) in
+    let r : c .number-refused2 .result ≡ refusalIs k 2 = c .number-refused2 .ensures ∙ ap (λ l. refusalIs (numberRefusal l) 2)
+    (c .before .enum-told3 .given .1) in
+    (ap Head.Refused r ∙ head-refused (length t) (headPart t) k 2 (head-2 t v s1 e1 k 2 b), omega arith)
+
+rest-of-requires-2 : tie.Need-rest-of-requires-2
+rest-of-requires-2 c κs = search needs
+
+slice-aggregate-count-line-3 : tie.Need-slice-aggregate-count-line-3
+slice-aggregate-count-line-3 c = search needs
+
+count-line-requires-3 : tie.Need-count-line-requires-3
+count-line-requires-3 c κs = search needs
+
+enum-known-atoms : tie.Need-enum-known-atoms
+enum-known-atoms c = search needs
+
+enum-told-4 : tie.Need-enum-told-4
+enum-told-4 c = search needs
+
+number-refused-requires-3 : tie.Need-number-refused-requires-3
+number-refused-requires-3 c κs = search needs
+
+returns-3 : tie.Need-returns-3
+returns-3 c =
+    let t = c .before .before .before .before .before .before .before .before .before .before .before .before .before .before .before .before .before .args .text .now in
+    let s1 = c .before .before .before .before .before .before .before .before .before .before .before .rest-of .result .now in
+    let v = c .before .before .before .before .before .before .before .before .before .before .before .before .enum-told .given .0 .0 in
+    let e1 = number-ok "version=" versionRefusal versionAt t s1 v
+    (c .before .before .before .before .before .before .before .before .before .before .before .rest-of .ensures)
+    (sym (c .before .before .before .before .before .before .before .before .before .before .before .before .before .before .count-line .ensures) ∙
+    c .before .before .before .before .before .before .before .before .before .before .before .before .enum-told .given .1) in
+    let s2 = c .before .before .before .before .before .rest-of2 .result .now in
+    let p = c .before .before .before .before .before .before .before .principals .given .0 .0 in
+    let e2 = number-ok "principals=" principalsRefusal principalsAt s1 s2 p (c .before .before .before .before .before .rest-of2 .ensures)
+    (sym (c .before .before .before .before .before .before .before .before .before .count-line2 .ensures) ∙
+    c .before .before .before .before .before .before .before .principals .given .1) in
+    let k = c .before .enum-told4 .given .0 .0 in
+    let b = number-bad "atoms=" atomsRefusal atomsAt s2 k (sym (c .before .before .before .count-line3 .ensures) ∙ c .before .enum-told4 .given .1) in
+    let r : c .number-refused3 .result ≡ refusalIs k 3 = c .number-refused3 .ensures ∙ ap (λ l. refusalIs (numberRefusal l) 3)
+    (c .before .enum-told4 .given .1) in
+    (ap Head.Refused r ∙ head-refused (length t) (headPart t) k 3 (head-3 t v s1 e1 p s2 e2 k 3 b), omega arith)
+
+rest-of-requires-3 : tie.Need-rest-of-requires-3
+rest-of-requires-3 c κs = search needs
+
+slice-aggregate-count-line-4 : tie.Need-slice-aggregate-count-line-4
+slice-aggregate-count-line-4 c = search needs
+
+count-line-requires-4 : tie.Need-count-line-requires-4
+count-line-requires-4 c κs = search needs
+
+enum-known-formulas : tie.Need-enum-known-formulas
+enum-known-formulas c = search needs
+
+enum-told-5 : tie.Need-enum-told-5
+enum-told-5 c = search needs
+
+number-refused-requires-4 : tie.Need-number-refused-requires-4
+number-refused-requires-4 c κs = search needs
+
+returns-4 : tie.Need-returns-4
+returns-4 c =
+    let t = c .before .before .before .before .before .before .before .before .before .before .before .before .before .before .before .before .before .before .before .before .before .before .before .args .text .now in
+    let s1 = c .before .before .before .before .before .before .before .before .before .before .before .before .before .before .before .before .before .rest-of .result .now in
+    let v = c .before .before .before .before .before .before .before .before .before .before .before .before .before .before .before .before .before .before .enum-told .given .0 .0 in
+    let e1 = number-ok "version=" versionRefusal versionAt t s1 v
+    (c .before .before .before .before .before .before .before .before .before .before .before .before .before .before .before .before .before .rest-of .ensures)
+    (sym (c .before .before .before .before .before .before .before .before .before .before .before .before .before .before .before .before .before .before .before .before .count-line .ensures) ∙
+    c .before .before .before .before .before .before .before .before .before .before .before .before .before .before .before .before .before .before .enum-told .given .1) in
+    let s2 = c .before .before .before .before .before .before .before .before .before .before .before .rest-of2 .result .now in
+    let p = c .before .before .before .before .before .before .before .before .before .before .before .before .before .principals .given .0 .0 in
+    let e2 = number-ok "principals=" principalsRefusal principalsAt s1 s2 p
+    (c .before .before .before .before .before .before .before .before .before .before .before .rest-of2 .ensures)
+    (sym (c .before .before .before .before .before .before .before .before .before .before .before .before .before .before .before .count-line2 .ensures) ∙
+    c .before .before .before .before .before .before .before .before .before .before .before .before .before .principals .given .1) in
+    let s3 = c .before .before .before .before .before .rest-of3 .result .now in
+    let n = c .before .before .before .before .before .before .before .atoms .given .0 .0 in
+    let e3 = number-ok "atoms=" atomsRefusal atomsAt s2 s3 n (c .before .before .before .before .before .rest-of3 .ensures)
+    (sym (c .before .before .before .before .before .before .before .before .before .count-line3 .ensures) ∙
+    c .before .before .before .before .before .before .before .atoms .given .1) in
+    let k = c .before .enum-told5 .given .0 .0 in
+    let b = number-bad "formulas=" formulasRefusal formulasAt s3 k
+    (sym (c .before .before .before .count-line4 .ensures) ∙ c .before .enum-told5 .given .1) in
+    let r : c .number-refused4 .result ≡ refusalIs k 4 = c .number-refused4 .ensures ∙ ap (λ l. refusalIs (numberRefusal l) 4)
+    (c .before .enum-told5 .given .1) in
+    (ap Head.Refused r ∙ head-refused (length t) (headPart t) k 4 (head-4 t v s1 e1 p s2 e2 n s3 e3 k 4 b), omega arith)
+
+rest-of-requires-4 : tie.Need-rest-of-requires-4
+rest-of-requires-4 c κs = search needs
+
+sub-at : tie.Need-sub-at
+sub-at c =
+    let t = c .before .before .before .before .before .before .before .before .before .before .before .before .before .before .before .before .before .before .before .before .before .before .before .before .args .text .now in
+    let s1 = c .before .before .before .before .before .before .before .before .before .before .before .before .before .before .before .before .before .before .rest-of .result .now in
+    let s2 = c .before .before .before .before .before .before .before .before .before .before .before .before .rest-of2 .result .now in
+    let s3 = c .before .before .before .before .before .before .rest-of3 .result .now in
+    let s4 = c .rest-of4 .result .now in
+    omega (
+      arith,
+      rest-short t s1
+          (c .before .before .before .before .before .before .before .before .before .before .before .before .before .before .before .before .before .before .rest-of .ensures),
+      rest-short s1 s2 (c .before .before .before .before .before .before .before .before .before .before .before .before .rest-of2 .ensures),
+      rest-short s2 s3 (c .before .before .before .before .before .before .rest-of3 .ensures),
+      rest-short s3 s4 (c .rest-of4 .ensures),
+    )
+
+returns-5 : tie.Need-returns-5
+returns-5 c =
+    let t = c .before .before .before .before .before .before .before .before .before .before .before .before .before .before .before .before .before .before .before .before .before .before .before .before .args .text .now in
+    let s1 = c .before .before .before .before .before .before .before .before .before .before .before .before .before .before .before .before .before .before .rest-of .result .now in
+    let v = c .before .before .before .before .before .before .before .before .before .before .before .before .before .before .before .before .before .before .before .enum-told .given .0 .0 in
+    let e1 = number-ok "version=" versionRefusal versionAt t s1 v
+    (c .before .before .before .before .before .before .before .before .before .before .before .before .before .before .before .before .before .before .rest-of .ensures)
+    (sym (c .before .before .before .before .before .before .before .before .before .before .before .before .before .before .before .before .before .before .before .before .before .count-line .ensures) ∙
+    c .before .before .before .before .before .before .before .before .before .before .before .before .before .before .before .before .before .before .before .enum-told .given .1) in
+    let s2 = c .before .before .before .before .before .before .before .before .before .before .before .before .rest-of2 .result .now in
+    let p = c .before .before .before .before .before .before .before .before .before .before .before .before .before .before .principals .given .0 .0 in
+    let e2 = number-ok "principals=" principalsRefusal principalsAt s1 s2 p
+    (c .before .before .before .before .before .before .before .before .before .before .before .before .rest-of2 .ensures)
+    (sym (c .before .before .before .before .before .before .before .before .before .before .before .before .before .before .before .before .count-line2 .ensures) ∙
+    c .before .before .before .before .before .before .before .before .before .before .before .before .before .before .principals .given .1) in
+    let s3 = c .before .before .before .before .before .before .rest-of3 .result .now in
+    let n = c .before .before .before .before .before .before .before .before .atoms .given .0 .0 in
+    let e3 = number-ok "atoms=" atomsRefusal atomsAt s2 s3 n (c .before .before .before .before .before .before .rest-of3 .ensures)
+    (sym (c .before .before .before .before .before .before .before .before .before .before .count-line3 .ensures) ∙
+    c .before .before .before .before .before .before .before .before .atoms .given .1) in
+    let s4 = c .rest-of4 .result .now in
+    let f = c .before .before .formulas .given .0 .0 in
+    let e4 = number-ok "formulas=" formulasRefusal formulasAt s3 s4 f (c .rest-of4 .ensures)
+    (sym (c .before .before .before .before .count-line4 .ensures) ∙ c .before .before .formulas .given .1) in (
+      head-read (length t) (headPart t) p n f s4 (head-5 t v s1 e1 p s2 e2 n s3 e3 f s4 e4),
+      count-most 1 1024
+          (number (valueOf (bytes "formulas=") s3)) f (sym (c .before .before .before .before .count-line4 .ensures) ∙
+          c .before .before .formulas .given .1),
+    )
+
+pub read-head-spec : {M : Type 1} → statement M
+read-head-spec =
+    tie.close
+    (tie.spec
+    slice-aggregate-count-line
+    count-line-requires
+    enum-told
+    enum-told-2
+    number-refused-requires
+    returns
+    rest-of-requires
+    slice-aggregate-count-line-2
+    count-line-requires-2
+    enum-known-principals
+    enum-told-3
+    number-refused-requires-2
+    returns-2
+    rest-of-requires-2
+    slice-aggregate-count-line-3
+    count-line-requires-3
+    enum-known-atoms
+    enum-told-4
+    number-refused-requires-3
+    returns-3
+    rest-of-requires-3
+    slice-aggregate-count-line-4
+    count-line-requires-4
+    enum-known-formulas
+    enum-told-5
+    number-refused-requires-4
+    returns-4
+    rest-of-requires-4
+    sub-at
+    returns-5)

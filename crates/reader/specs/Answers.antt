@@ -1,0 +1,125 @@
+-- What the answers of the code say, case by case.
+use Prim.Native.Nat.{ℕ, _-_}
+use mathlib.Core.Path.{_≡_, refl}
+use mathlib.Core.List.{List}
+use lib.ListN.{length}
+use Rattle.scope.specs.Request.{Row, Request}
+use Rattle.scope.specs.Line.{Value, val, out, Read, ok, bad}
+use Rattle.scope.specs.Reader.{Outcome, read, refused}
+use Rattle.scope.specs.Answer.{Answer, answer}
+use Rattle.scope.specs.Calls.{outcomeAnswer, noRequest, requestIn}
+use Rattle.reader.specs.Sections.{Counted, Formulas, PolicyRead}
+use Rattle.reader.specs.declared.Counts.{Counts}
+use Rattle.reader.specs.declared.Refusal.{Refusal}
+use Rattle.reader.specs.declared.Reading.{Reading}
+use Rattle.reader.specs.declared.Reading.the-variants as Reading
+use Rattle.reader.specs.declared.NumberLine.{NumberLine}
+use Rattle.reader.specs.declared.NumberLine.the-variants as NumberLine
+use Rattle.reader.specs.declared.RowLine.{RowLine}
+use Rattle.reader.specs.declared.RowLine.the-variants as RowLine
+use Rattle.reader.specs.declared.Section.{Section}
+use Rattle.reader.specs.declared.Section.the-variants as Section
+use Rattle.reader.specs.declared.Head.{Head}
+use Rattle.reader.specs.declared.Head.the-variants as Head
+use Rattle.reader.specs.declared.Policy.{Policy}
+use Rattle.reader.specs.declared.Policy.the-variants as Policy
+use Rattle.reader.specs.declared.Steps.{Steps}
+use Rattle.reader.specs.declared.Steps.the-variants as Steps
+
+abbrev pub refusalIs : ℕ → ℕ → Refusal
+refusalIs k place = record { number = k; place = place }
+
+-- What the reader answers: the counts and the goal, or the refusal and its place.
+abbrev pub countsOf : Request → Counts
+countsOf q =
+    record {
+      principals = q .principals;
+      atoms = q .atoms;
+      formulas = length (q .forms);
+      lines = length (q .lines);
+      goal = q .goal;
+      steps = length (q .steps);
+    }
+
+unfoldable pub readingOf : Outcome → Reading
+readingOf (read q) = Reading.Read (countsOf q)
+readingOf (refused k place) = Reading.Refused (refusalIs k place)
+
+-- Document 01's number and values for each case: 0 at place 0 with the counts and the goal, or the refusal at its place with zeros.
+unfoldable pub answerIn : Reading → Answer
+answerIn (Reading.Read c) = answer 0 0
+answerIn (Reading.Refused r) = answer (r .number) (r .place)
+
+unfoldable pub countsIn : Reading → Counts
+countsIn (Reading.Read c) = c
+countsIn (Reading.Refused r) = countsOf noRequest
+
+pub answers-same : (o : Outcome) → answerIn (readingOf o) ≡ outcomeAnswer o
+unfolding answerIn readingOf outcomeAnswer
+answers-same (read q) = refl
+answers-same (refused k place) = refl
+
+pub counts-same : (o : Outcome) → countsIn (readingOf o) ≡ countsOf (requestIn o)
+unfolding countsIn readingOf requestIn
+counts-same (read q) = refl
+counts-same (refused k place) = refl
+
+-- Of one line.
+unfoldable pub numberLineOf : Value ℕ → NumberLine
+numberLineOf (val n) = NumberLine.Number n
+numberLineOf (out k) = NumberLine.Refused k
+
+unfoldable pub rowLineOf : Value Row → RowLine
+rowLineOf (val r) = RowLine.Row (r .kind) (r .left) (r .right)
+rowLineOf (out k) = RowLine.Refused k
+
+-- Of several, in a text of n bytes.
+unfoldable pub sectionOf : {A : Type 0} → ℕ → Read A → Section
+sectionOf n (ok a rest) = Section.Read (n - length rest)
+sectionOf n (bad k i) = Section.Refused (refusalIs k i)
+
+unfoldable pub headOf : ℕ → Read Counted → Head
+headOf n (ok h rest) = Head.Read (h .principals) (h .atoms) (h .formulas) (n - length rest)
+headOf n (bad k i) = Head.Refused (refusalIs k i)
+
+unfoldable pub formulasOf : ℕ → Read Formulas → Head
+formulasOf n (ok f rest) = Head.Read (f .principals) (f .atoms) (length (f .forms)) (n - length rest)
+formulasOf n (bad k i) = Head.Refused (refusalIs k i)
+
+unfoldable pub policyOf : ℕ → Read PolicyRead → Policy
+policyOf n (ok p rest) = Policy.Read (length (p .lines)) (p .goal) (n - length rest)
+policyOf n (bad k i) = Policy.Refused (refusalIs k i)
+
+unfoldable pub stepsOf : ℕ → Read (List Row) → Steps
+stepsOf n (ok rows rest) = Steps.Read (length rows) (n - length rest)
+stepsOf n (bad k i) = Steps.Refused (refusalIs k i)
+
+-- The refusal in an answer; none where the answer is no refusal.
+abbrev pub numberRefusal : NumberLine → ℕ
+numberRefusal (NumberLine.Number n) = 0
+numberRefusal (NumberLine.Refused k) = k
+
+abbrev pub rowRefused : RowLine → ℕ
+rowRefused (RowLine.Row k l r) = 0
+rowRefused (RowLine.Refused k) = k
+
+abbrev pub sectionRefused : Section → Refusal
+sectionRefused (Section.Read at) = refusalIs 0 0
+sectionRefused (Section.Refused r) = r
+
+abbrev pub headRefused : Head → Refusal
+headRefused (Head.Read p a f at) = refusalIs 0 0
+headRefused (Head.Refused r) = r
+
+abbrev pub policyRefused : Policy → Refusal
+policyRefused (Policy.Read n g at) = refusalIs 0 0
+policyRefused (Policy.Refused r) = r
+
+abbrev pub stepsRefused : Steps → Refusal
+stepsRefused (Steps.Read n at) = refusalIs 0 0
+stepsRefused (Steps.Refused r) = r
+
+-- The count of formulas in an answer.
+abbrev pub formulaCount : Head → ℕ
+formulaCount (Head.Read p a f at) = f
+formulaCount (Head.Refused r) = 0

@@ -1,0 +1,155 @@
+-- What an answer of the code says of the reading that it stands for.
+use Prim.Native.Nat.{ℕ, _-_}
+use native.Mathlib.Omega.{arith}
+use mathlib.Core.Path.{_≡_, refl, ap, _∙_}
+use mathlib.Core.List.{List}
+use lib.ListN.{length, take, drop}
+use Rattle.scope.specs.Request.{Row}
+use Rattle.scope.specs.Line.{Read, ok, bad, Reader}
+use Rattle.lines.specs.Parts.{tail-part}
+use Rattle.reader.specs.Sections.{Counted, Formulas, PolicyRead}
+use Rattle.reader.specs.Answers.{sectionOf, headOf, formulasOf, policyOf, stepsOf}
+use Rattle.reader.specs.Many.{Ends, tail-drop}
+use Rattle.reader.specs.declared.Refusal.{Refusal}
+use Rattle.reader.specs.declared.Section.the-variants as Section
+use Rattle.reader.specs.declared.Head.the-variants as Head
+use Rattle.reader.specs.declared.Policy.the-variants as Policy
+use Rattle.reader.specs.declared.Steps.the-variants as Steps
+
+-- The part of a text that starts at a place, as the code has it.
+abbrev pub partFrom : ℕ → List ℕ → List ℕ
+partFrom at s = take (length s - at) (drop at s)
+
+pub part-is : {A : Type 0} (m : Reader A) → Ends m → (s : List ℕ) (a : A) (rest : List ℕ) (at : ℕ) → m s ≡ ok a rest → at ≡ length s - length rest
+    → partFrom at s ≡ rest
+part-is m p s a rest at e is = tail-part at s ∙ ap (λ k. drop k s) is ∙ tail-drop rest s (p .ends s a rest e)
+
+pub record Section-got {A : Type 0} (n : ℕ) (r : Read (List A)) (at : ℕ) : Type 0 where
+  pub things : List A
+  pub rest : List ℕ
+  pub is : r ≡ ok things rest
+  pub place : at ≡ n - length rest
+
+pub section-got : {A : Type 0} (n : ℕ) (r : Read (List A)) (at : ℕ) → sectionOf n r ≡ Section.Read at → Section-got n r at
+unfolding sectionOf
+section-got n (ok xs rest) at e = record { things = xs; rest = rest; is = refl; place = cc }
+section-got n (bad k i) at e = let z : _≡_ {A = ℕ} 0 1 = cc in absurd (omega arith)
+
+pub section-lost : {A : Type 0} (n : ℕ) (r : Read (List A)) (x : Refusal) → sectionOf n r ≡ Section.Refused x → r ≡ bad (x .number) (x .place)
+unfolding sectionOf
+section-lost n (ok xs rest) x e = let z : _≡_ {A = ℕ} 0 1 = cc in absurd (omega arith)
+section-lost {A} n (bad k i) x e =
+    let f : record { number = k; place = i } ≡ x = cc in
+    ap {B = Read (List A)} (λ (y : Refusal). bad (y .number) (y .place)) f
+
+pub record Head-got (n : ℕ) (r : Read Counted) (p a f at : ℕ) : Type 0 where
+  pub rest : List ℕ
+  pub is : r ≡ ok record { principals = p; atoms = a; formulas = f } rest
+  pub place : at ≡ n - length rest
+
+pub head-got : (n : ℕ) (r : Read Counted) (p a f at : ℕ) → headOf n r ≡ Head.Read p a f at → Head-got n r p a f at
+unfolding headOf
+head-got n (ok h rest) p a f at e =
+    let x : h .principals ≡ p = cc in
+    let y : h .atoms ≡ a = cc in
+    let z : h .formulas ≡ f = cc in
+    record { rest = rest; is = λ i. ok record { principals = x i; atoms = y i; formulas = z i } rest; place = cc }
+head-got n (bad k i) p a f at e = let z : _≡_ {A = ℕ} 0 1 = cc in absurd (omega arith)
+
+pub head-lost : (n : ℕ) (r : Read Counted) (x : Refusal) → headOf n r ≡ Head.Refused x → r ≡ bad (x .number) (x .place)
+unfolding headOf
+head-lost n (ok h rest) x e = let z : _≡_ {A = ℕ} 0 1 = cc in absurd (omega arith)
+head-lost n (bad k i) x e =
+    let f : record { number = k; place = i } ≡ x = cc in
+    ap {B = Read Counted} (λ (y : Refusal). bad (y .number) (y .place)) f
+
+pub record Formulas-got (n : ℕ) (r : Read Formulas) (p a f at : ℕ) : Type 0 where
+  pub forms : List Row
+  pub rest : List ℕ
+  pub is : r ≡ ok record { principals = p; atoms = a; forms = forms } rest
+  pub count : f ≡ length forms
+  pub place : at ≡ n - length rest
+
+pub formulas-got : (n : ℕ) (r : Read Formulas) (p a f at : ℕ) → formulasOf n r ≡ Head.Read p a f at → Formulas-got n r p a f at
+unfolding formulasOf
+formulas-got n (ok h rest) p a f at e =
+    let x : h .principals ≡ p = cc in
+    let y : h .atoms ≡ a = cc in
+    record { forms = h .forms; rest = rest; is = λ i. ok record { principals = x i; atoms = y i; forms = h .forms } rest; count = cc; place = cc }
+formulas-got n (bad k i) p a f at e = let z : _≡_ {A = ℕ} 0 1 = cc in absurd (omega arith)
+
+pub formulas-lost : (n : ℕ) (r : Read Formulas) (x : Refusal) → formulasOf n r ≡ Head.Refused x → r ≡ bad (x .number) (x .place)
+unfolding formulasOf
+formulas-lost n (ok h rest) x e = let z : _≡_ {A = ℕ} 0 1 = cc in absurd (omega arith)
+formulas-lost n (bad k i) x e =
+    let f : record { number = k; place = i } ≡ x = cc in
+    ap {B = Read Formulas} (λ (y : Refusal). bad (y .number) (y .place)) f
+
+pub record Policy-got (n : ℕ) (r : Read PolicyRead) (c g at : ℕ) : Type 0 where
+  pub lines : List ℕ
+  pub rest : List ℕ
+  pub is : r ≡ ok record { lines = lines; goal = g } rest
+  pub count : c ≡ length lines
+  pub place : at ≡ n - length rest
+
+pub policy-got : (n : ℕ) (r : Read PolicyRead) (c g at : ℕ) → policyOf n r ≡ Policy.Read c g at → Policy-got n r c g at
+unfolding policyOf
+policy-got n (ok p rest) c g at e =
+    let x : p .goal ≡ g = cc in
+    record { lines = p .lines; rest = rest; is = λ i. ok record { lines = p .lines; goal = x i } rest; count = cc; place = cc }
+policy-got n (bad k i) c g at e = let z : _≡_ {A = ℕ} 0 1 = cc in absurd (omega arith)
+
+pub policy-lost : (n : ℕ) (r : Read PolicyRead) (x : Refusal) → policyOf n r ≡ Policy.Refused x → r ≡ bad (x .number) (x .place)
+unfolding policyOf
+policy-lost n (ok p rest) x e = let z : _≡_ {A = ℕ} 0 1 = cc in absurd (omega arith)
+policy-lost n (bad k i) x e =
+    let f : record { number = k; place = i } ≡ x = cc in
+    ap {B = Read PolicyRead} (λ (y : Refusal). bad (y .number) (y .place)) f
+
+pub record Steps-got (n : ℕ) (r : Read (List Row)) (c at : ℕ) : Type 0 where
+  pub rows : List Row
+  pub rest : List ℕ
+  pub is : r ≡ ok rows rest
+  pub count : c ≡ length rows
+  pub place : at ≡ n - length rest
+
+pub steps-got : (n : ℕ) (r : Read (List Row)) (c at : ℕ) → stepsOf n r ≡ Steps.Read c at → Steps-got n r c at
+unfolding stepsOf
+steps-got n (ok rows rest) c at e = record { rows = rows; rest = rest; is = refl; count = cc; place = cc }
+steps-got n (bad k i) c at e = let z : _≡_ {A = ℕ} 0 1 = cc in absurd (omega arith)
+
+pub steps-lost : (n : ℕ) (r : Read (List Row)) (x : Refusal) → stepsOf n r ≡ Steps.Refused x → r ≡ bad (x .number) (x .place)
+unfolding stepsOf
+steps-lost n (ok rows rest) x e = let z : _≡_ {A = ℕ} 0 1 = cc in absurd (omega arith)
+steps-lost n (bad k i) x e =
+    let f : record { number = k; place = i } ≡ x = cc in
+    ap {B = Read (List Row)} (λ (y : Refusal). bad (y .number) (y .place)) f
+
+-- The answers that a reading gives.
+pub formulas-refused : (n : ℕ) (r : Read Formulas) (x : Refusal) → r ≡ bad (x .number) (x .place) → Head.Refused x ≡ formulasOf n r
+unfolding formulasOf
+formulas-refused n r x e = rw e refl
+
+pub policy-refused : (n : ℕ) (r : Read PolicyRead) (x : Refusal) → r ≡ bad (x .number) (x .place) → Policy.Refused x ≡ policyOf n r
+unfolding policyOf
+policy-refused n r x e = rw e refl
+
+pub steps-refused : (n : ℕ) (r : Read (List Row)) (x : Refusal) → r ≡ bad (x .number) (x .place) → Steps.Refused x ≡ stepsOf n r
+unfolding stepsOf
+steps-refused n r x e = rw e refl
+
+pub formulas-read : (n : ℕ) (r : Read Formulas) (p a f at : ℕ) (forms : List Row) (rest : List ℕ) → r
+    ≡ ok record { principals = p; atoms = a; forms = forms } rest
+    → f ≡ length forms → at ≡ n - length rest → Head.Read p a f at ≡ formulasOf n r
+unfolding formulasOf
+formulas-read n r p a f at forms rest e c is = rw (e, c, is) refl
+
+pub policy-read : (n : ℕ) (r : Read PolicyRead) (c g at : ℕ) (lines rest : List ℕ) → r ≡ ok record { lines = lines; goal = g } rest
+    → c ≡ length lines → at ≡ n - length rest → Policy.Read c g at ≡ policyOf n r
+unfolding policyOf
+policy-read n r c g at lines rest e k is = rw (e, k, is) refl
+
+pub steps-read : (n : ℕ) (r : Read (List Row)) (c at : ℕ) (rows : List Row) (rest : List ℕ) → r ≡ ok rows rest
+    → c ≡ length rows → at ≡ n - length rest → Steps.Read c at ≡ stepsOf n r
+unfolding stepsOf
+steps-read n r c at rows rest e k is = rw (e, k, is) refl

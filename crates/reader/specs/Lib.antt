@@ -1,0 +1,12 @@
+pub mod Sections
+pub mod Answers
+pub mod Lines
+pub mod Many
+pub mod Stored
+pub mod Refused
+pub mod Whole
+pub mod Turns
+pub mod Got
+pub mod Joins
+pub mod Outcomes
+pub mod Unique

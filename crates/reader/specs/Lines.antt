@@ -1,0 +1,253 @@
+-- A line of the definition from what the code answers about it.
+use Prim.Native.Nat.{ℕ, zero, suc, _≤_, _<_}
+use Prim.Native.String.{String}
+use native.Mathlib.Omega.{arith}
+use mathlib.Core.Path.{_≡_, refl, ap, sym, _∙_}
+use mathlib.Core.List.{List, []}
+use mathlib.Core.Bool.{Bool, true, false}
+use mathlib.Core.Option.{Option, none, some}
+use borrow.Author.Tests.{leb-true, le-leb, lt-leb, lt-ltb, le-ltb}
+use lib.Dec.{ltb, leb}
+use lib.ListN.{getD}
+use Rattle.scope.specs.Form.{both}
+use Rattle.scope.specs.Request.{Row}
+use Rattle.scope.specs.Bytes.{bytes}
+use Rattle.scope.specs.Number.{number}
+use Rattle.scope.specs.Line.{Value, val, out, Line, ok, bad, settled, judged, placed, line}
+use Rattle.scope.specs.Kinds.{Kind, items, ontoFirst, numbers, kindFrom, same, kindRow, itemsRow, rowIn, formKinds, stepKinds}
+use Rattle.scope.specs.Text.{numberLine, rowLine}
+use Rattle.scope.specs.Refusals.{demand, countRefusal}
+use Rattle.lines.specs.Parts.{valueOf, restOf, line-parts}
+use Rattle.lines.specs.Stop.{numberStop}
+use Rattle.lines.specs.Answers.{numberAnswer, rowAnswer}
+use Rattle.lines.specs.Operands.{number-some, number-none}
+use Rattle.lines.specs.declared.Number.{Number}
+use Rattle.lines.specs.declared.Number.the-variants as NumberValue
+use Rattle.lines.specs.declared.Row.{Row as RowAnswer}
+use Rattle.lines.specs.declared.Row.the-variants as RowValue
+use Rattle.reader.specs.Sections.{row, belowRefusal, classRefusal}
+use Rattle.reader.specs.Answers.{numberLineOf, rowLineOf}
+use Rattle.reader.specs.declared.NumberLine.the-variants as NumberLine
+use Rattle.reader.specs.declared.RowLine.the-variants as RowLine
+
+-- Out of shape, refused, and let through.
+module _ {A : Type 0} (refusal : A → ℕ) (o : Option A) where
+  pub judged-none : o ≡ none → judged refusal o ≡ out 2
+  unfolding judged
+  judged-none e = rw e refl
+
+  pub judged-out : (a : A) (k : ℕ) → o ≡ some a → refusal a ≡ suc k → judged refusal o ≡ out (suc k)
+  unfolding judged settled
+  judged-out a k e r = rw e (rw r refl)
+
+  pub judged-val : (a : A) → o ≡ some a → refusal a ≡ 0 → judged refusal o ≡ val a
+  unfolding judged settled
+  judged-val a e r = rw e (rw r refl)
+
+pub number-out : (v : Value ℕ) (k : ℕ) → v ≡ out k → NumberLine.Refused k ≡ numberLineOf v
+unfolding numberLineOf
+number-out v k e = rw e refl
+
+pub number-val : (v : Value ℕ) (n : ℕ) → v ≡ val n → NumberLine.Number n ≡ numberLineOf v
+unfolding numberLineOf
+number-val v n e = rw e refl
+
+pub row-out : (v : Value Row) (k : ℕ) → v ≡ out k → RowLine.Refused k ≡ rowLineOf v
+unfolding rowLineOf
+row-out v k e = rw e refl
+
+pub row-val : (v : Value Row) (k l r : ℕ) → v ≡ val (row k l r) → RowLine.Row k l r ≡ rowLineOf v
+unfolding rowLineOf
+row-val v k l r e = rw e refl
+
+-- And back: what an answer says of the line.
+pub out-number : (v : Value ℕ) (k : ℕ) → numberLineOf v ≡ NumberLine.Refused k → v ≡ out k
+unfolding numberLineOf
+out-number (val n) k e = let z : _≡_ {A = ℕ} 0 1 = cc in absurd (omega arith)
+out-number (out j) k e = cc
+
+pub val-number : (v : Value ℕ) (n : ℕ) → numberLineOf v ≡ NumberLine.Number n → v ≡ val n
+unfolding numberLineOf
+val-number (val m) n e = cc
+val-number (out j) n e = let z : _≡_ {A = ℕ} 0 1 = cc in absurd (omega arith)
+
+pub out-row : (v : Value Row) (k : ℕ) → rowLineOf v ≡ RowLine.Refused k → v ≡ out k
+unfolding rowLineOf
+out-row (val n) k e = let z : _≡_ {A = ℕ} 0 1 = cc in absurd (omega arith)
+out-row (out j) k e = cc
+
+pub val-row : (v : Value Row) (k l r : ℕ) → rowLineOf v ≡ RowLine.Row k l r → v ≡ val (row k l r)
+unfolding rowLineOf
+val-row (val m) k l r e =
+    let a : m .kind ≡ k = cc in
+    let b : m .left ≡ l = cc in
+    let c : m .right ≡ r = cc in
+    ap val (λ i. record { kind = a i; left = b i; right = c i })
+val-row (out j) k l r e = let z : _≡_ {A = ℕ} 0 1 = cc in absurd (omega arith)
+
+-- A line by its value and the text behind it.
+no-number : number [] ≡ none
+unfolding number both
+no-number = refl
+
+pub no-form : rowIn formKinds [] ≡ none
+unfolding rowIn formKinds itemsRow items ontoFirst kindFrom same kindRow numbers
+no-form = refl
+
+pub no-step : rowIn stepKinds [] ≡ none
+unfolding rowIn stepKinds itemsRow items ontoFirst kindFrom same kindRow numbers
+no-step = refl
+
+module _ {A : Type 0} (l : Line A) (refusal : A → ℕ) (i : ℕ) (s : List ℕ) (empty : l .shape .thing [] ≡ none) where
+  line-ok : (a : A) (rest : List ℕ) → rest ≡ restOf s → judged refusal (l .shape .thing (valueOf (l .key) s)) ≡ val a → line l refusal i s ≡ ok a rest
+  unfolding placed
+  line-ok a rest r e = line-parts l refusal i s empty ∙ rw (e, r) refl
+
+  line-bad : (k : ℕ) → judged refusal (l .shape .thing (valueOf (l .key) s)) ≡ out k → line l refusal i s ≡ bad k i
+  unfolding placed
+  line-bad k e = line-parts l refusal i s empty ∙ rw e refl
+
+pub number-ok : (key : String) (refusal : ℕ → ℕ) (i : ℕ) (s rest : List ℕ) (n : ℕ) → rest ≡ restOf s
+    → numberLineOf (judged refusal (number (valueOf (bytes key) s))) ≡ NumberLine.Number n → line (numberLine key) refusal i s ≡ ok n rest
+number-ok key refusal i s rest n r e =
+    line-ok (numberLine key) refusal i s no-number n rest r (val-number (judged refusal (number (valueOf (bytes key) s))) n e)
+
+pub number-bad : (key : String) (refusal : ℕ → ℕ) (i : ℕ) (s : List ℕ) (k : ℕ)
+    → numberLineOf (judged refusal (number (valueOf (bytes key) s))) ≡ NumberLine.Refused k → line (numberLine key) refusal i s ≡ bad k i
+number-bad key refusal i s k e =
+    line-bad (numberLine key) refusal i s no-number k (out-number (judged refusal (number (valueOf (bytes key) s))) k e)
+
+module _ (key : String) (kinds : List Kind) (refusal : Row → ℕ) (i : ℕ) (s : List ℕ) (empty : rowIn kinds [] ≡ none) where
+  pub row-ok : (rest : List ℕ) (k l r : ℕ) → rest ≡ restOf s
+      → rowLineOf (judged refusal (rowIn kinds (valueOf (bytes key) s))) ≡ RowLine.Row k l r → line (rowLine key kinds) refusal i s ≡ ok
+      (row k l r) rest
+  row-ok rest k l r is e =
+      line-ok (rowLine key kinds) refusal i s empty (row k l r) rest is (val-row (judged refusal (rowIn kinds (valueOf (bytes key) s))) k l r e)
+
+  pub row-bad : (k : ℕ) → rowLineOf (judged refusal (rowIn kinds (valueOf (bytes key) s))) ≡ RowLine.Refused k → line
+      (rowLine key kinds) refusal i s ≡ bad k i
+  row-bad k e = line-bad (rowLine key kinds) refusal i s empty k (out-row (judged refusal (rowIn kinds (valueOf (bytes key) s))) k e)
+
+-- The refusals of a count and of a formula number.
+pub count-low : (least most n : ℕ) → n < least → countRefusal least most n ≡ 3
+unfolding countRefusal both demand
+count-low least most n h = rw (lt-leb least n h) refl
+
+pub count-high : (least most n : ℕ) → least ≤ n → most < n → countRefusal least most n ≡ 3
+unfolding countRefusal both demand
+count-high least most n h k = rw (le-leb least n h, lt-leb n most k) refl
+
+pub count-in : (least most n : ℕ) → least ≤ n → n ≤ most → countRefusal least most n ≡ 0
+unfolding countRefusal both demand
+count-in least most n h k = rw (le-leb least n h, le-leb n most k) refl
+
+pub below-not : (n f : ℕ) → n ≤ f → belowRefusal n f ≡ 3
+unfolding belowRefusal demand
+below-not n f h = rw (le-ltb f n h) refl
+
+pub below-is : (n f : ℕ) → f < n → belowRefusal n f ≡ 0
+unfolding belowRefusal demand
+below-is n f h = rw (lt-ltb f n h) refl
+
+-- A count that is let through is within its bounds.
+pub count-most : (least most : ℕ) (o : Option ℕ) (n : ℕ) → numberLineOf (judged (countRefusal least most) o) ≡ NumberLine.Number n → n ≤ most
+unfolding numberLineOf judged settled countRefusal both demand
+count-most least most none n e = let z : _≡_ {A = ℕ} 0 1 = cc in absurd (omega arith)
+count-most least most (some m) n e = go (leb least m) (leb m most) refl refl e
+  where
+    go : (a b : Bool) → leb least m ≡ a → leb m most ≡ b → numberLineOf (settled (demand (both a b) 3 0) m) ≡ NumberLine.Number n → n ≤ most
+    go true true p q e = let f : m ≡ n = cc in omega (arith, leb-true m most q)
+    go true false p q e = let z : _≡_ {A = ℕ} 0 1 = cc in absurd (omega arith)
+    go false b p q e = let z : _≡_ {A = ℕ} 0 1 = cc in absurd (omega arith)
+
+-- The class is asked of a number that is a formula's.
+module _ (test : ℕ → Bool) (classes : List ℕ) (n : ℕ) (o : Option ℕ) where
+  pub class-before : (k : ℕ) → numberLineOf (judged (belowRefusal n) o) ≡ NumberLine.Refused k → NumberLine.Refused k ≡ numberLineOf
+      (judged (classRefusal test classes n) o)
+  unfolding numberLineOf judged settled belowRefusal classRefusal demand
+  class-before = go o
+    where
+      go : (o : Option ℕ) (k : ℕ) → numberLineOf (judged (belowRefusal n) o) ≡ NumberLine.Refused k → NumberLine.Refused k ≡ numberLineOf
+          (judged (classRefusal test classes n) o)
+      go none k e = sym e
+      go (some f) k e = low (ltb f n) e
+        where
+          low : (b : Bool) → numberLineOf (settled (demand b 3 0) f) ≡ NumberLine.Refused k → NumberLine.Refused k ≡ numberLineOf
+              (settled (demand b 3 (demand (test (getD classes f 0)) 5 0)) f)
+          low true e = let z : _≡_ {A = ℕ} 0 1 = cc in absurd (omega arith)
+          low false e = sym e
+
+  pub class-after : (f : ℕ) → numberLineOf (judged (belowRefusal n) o) ≡ NumberLine.Number f → judged (classRefusal test classes n) o
+      ≡ settled (demand (test (getD classes f 0)) 5 0) f
+  unfolding numberLineOf judged settled belowRefusal classRefusal demand
+  class-after = go o
+    where
+      go : (o : Option ℕ) (f : ℕ) → numberLineOf (judged (belowRefusal n) o) ≡ NumberLine.Number f → judged (classRefusal test classes n) o
+          ≡ settled (demand (test (getD classes f 0)) 5 0) f
+      go none f e = let z : _≡_ {A = ℕ} 0 1 = cc in absurd (omega arith)
+      go (some m) f e = low (ltb m n) e
+        where
+          low : (b : Bool) → numberLineOf (settled (demand b 3 0) m) ≡ NumberLine.Number f → settled
+              (demand b 3 (demand (test (getD classes m 0)) 5 0)) m ≡ settled (demand (test (getD classes f 0)) 5 0) f
+          low true e = let p : m ≡ f = cc in ap (λ x. settled (demand (test (getD classes x 0)) 5 0) x) p
+          low false e = let z : _≡_ {A = ℕ} 0 1 = cc in absurd (omega arith)
+
+-- What the answer about a value says of its row.
+pub row-none : (o : Option Row) → rowAnswer o ≡ RowValue.Bad → o ≡ none
+unfolding rowAnswer
+row-none none e = refl
+row-none (some r) e = let z : _≡_ {A = ℕ} 0 1 = cc in absurd (omega arith)
+
+pub row-some : (o : Option Row) (k l r : ℕ) → rowAnswer o ≡ RowValue.Items k l r → o ≡ some (row k l r)
+unfolding rowAnswer
+row-some none k l r e = let z : _≡_ {A = ℕ} 0 1 = cc in absurd (omega arith)
+row-some (some m) k l r e =
+    let a : m .kind ≡ k = cc in
+    let b : m .left ≡ l = cc in
+    let c : m .right ≡ r = cc in
+    ap some (λ i. record { kind = a i; left = b i; right = c i })
+
+-- A refusal that is not 0, and one that is.
+pub refused-row : (refusal : Row → ℕ) (o : Option Row) (a : Row) (k : ℕ) → o ≡ some a → k ≡ refusal a → (k ≡ 0 → ⊥) → RowLine.Refused k
+    ≡ rowLineOf (judged refusal o)
+refused-row refusal o a zero e r n = absurd (n refl)
+refused-row refusal o a (suc k) e r n = row-out (judged refusal o) (suc k) (judged-out refusal o a k e (sym r))
+
+pub passed-row : (refusal : Row → ℕ) (o : Option Row) (k l r : ℕ) → o ≡ some (row k l r) → refusal (row k l r) ≡ 0 → RowLine.Row k l r
+    ≡ rowLineOf (judged refusal o)
+passed-row refusal o k l r e z = row-val (judged refusal o) k l r (judged-val refusal o (row k l r) e z)
+
+-- A number line and a row line from the value that was found and the answer about it.
+module _ (refusal : ℕ → ℕ) (value whole : List ℕ) (part : value ≡ whole) (r : Number)
+    (about : r ≡ numberAnswer (number value) (numberStop value)) where
+  pub number-lost : (at : ℕ) → r ≡ NumberValue.Bad at → NumberLine.Refused 2 ≡ numberLineOf (judged refusal (number whole))
+  number-lost at e =
+      number-out (judged refusal (number whole)) 2
+      (judged-none refusal (number whole) (ap number (sym part) ∙ number-none (number value) (numberStop value) at (sym about ∙ e)))
+
+  module _ (n : ℕ) (e : r ≡ NumberValue.Value n) where
+    written : number whole ≡ some n
+    written = ap number (sym part) ∙ number-some (number value) (numberStop value) n (sym about ∙ e)
+
+    pub number-turned : (k : ℕ) → refusal n ≡ suc k → NumberLine.Refused (suc k) ≡ numberLineOf (judged refusal (number whole))
+    number-turned k z = number-out (judged refusal (number whole)) (suc k) (judged-out refusal (number whole) n k written z)
+
+    pub number-taken : refusal n ≡ 0 → NumberLine.Number n ≡ numberLineOf (judged refusal (number whole))
+    number-taken z = number-val (judged refusal (number whole)) n (judged-val refusal (number whole) n written z)
+
+module _ (kinds : List Kind) (refusal : Row → ℕ) (value whole : List ℕ) (part : value ≡ whole) (v : RowAnswer)
+    (about : v ≡ rowAnswer (rowIn kinds value)) where
+  pub row-lost : v ≡ RowValue.Bad → RowLine.Refused 2 ≡ rowLineOf (judged refusal (rowIn kinds whole))
+  row-lost e =
+      row-out (judged refusal (rowIn kinds whole)) 2
+      (judged-none refusal (rowIn kinds whole) (ap (rowIn kinds) (sym part) ∙ row-none (rowIn kinds value) (sym about ∙ e)))
+
+  module _ (k l r : ℕ) (e : v ≡ RowValue.Items k l r) where
+    inShape : rowIn kinds whole ≡ some (row k l r)
+    inShape = ap (rowIn kinds) (sym part) ∙ row-some (rowIn kinds value) k l r (sym about ∙ e)
+
+    pub row-turned : (j : ℕ) → j ≡ refusal (row k l r) → (j ≡ 0 → ⊥) → RowLine.Refused j ≡ rowLineOf (judged refusal (rowIn kinds whole))
+    row-turned j z n = refused-row refusal (rowIn kinds whole) (row k l r) j inShape z n
+
+    pub row-taken : refusal (row k l r) ≡ 0 → RowLine.Row k l r ≡ rowLineOf (judged refusal (rowIn kinds whole))
+    row-taken z = passed-row refusal (rowIn kinds whole) k l r inShape z

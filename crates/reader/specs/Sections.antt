@@ -1,0 +1,74 @@
+-- The sections of the file, each a reader of document 01's lines, and the whole file from them.
+use Prim.Native.Nat.{ℕ}
+use mathlib.Core.List.{List, []}
+use mathlib.Core.Bool.{Bool}
+use lib.Dec.{ltb}
+use lib.ListN.{length, getD}
+use Rattle.scope.specs.Request.{Row}
+use Rattle.scope.specs.Line.{Reader, line, many, done, _>>=_}
+use Rattle.scope.specs.Limits.{versionAt, principalsAt, atomsAt, formulasAt, clausesAt, clauseAt, goalAt, stepsAt}
+use Rattle.scope.specs.Refusals.{demand, versionRefusal, principalsRefusal, atomsRefusal, formulasRefusal, clausesRefusal, goalRefusal, stepsRefusal}
+use Rattle.scope.specs.Text.{versionLine, principalsLine, atomsLine, formulasLine, clausesLine, clauseLine, goalLine, stepsLine}
+use Rattle.scope.specs.Reader.{formItem, clauseItem, stepItem}
+use Rattle.classes.specs.Class.{policyIn}
+
+abbrev pub row : ℕ → ℕ → ℕ → Row
+row k l r = record { kind = k; left = l; right = r }
+
+-- The first four lines.
+pub record Counted : Type 0 where
+  pub principals : ℕ
+  pub atoms : ℕ
+  pub formulas : ℕ
+
+unfoldable pub headPart : Reader Counted
+unfolding line _>>=_
+headPart = do
+  version ← line versionLine versionRefusal versionAt
+  principals ← line principalsLine principalsRefusal principalsAt
+  atoms ← line atomsLine atomsRefusal atomsAt
+  formulas ← line formulasLine formulasRefusal formulasAt
+  done record { principals = principals; atoms = atoms; formulas = formulas }
+
+-- And the formulas.
+pub record Formulas : Type 0 where
+  pub principals : ℕ
+  pub atoms : ℕ
+  pub forms : List Row
+
+unfoldable pub formulasPart : Reader Formulas
+unfolding headPart many _>>=_
+formulasPart = do
+  h ← headPart
+  forms ← many (formItem (h .principals) (h .atoms)) (h .formulas) []
+  done record { principals = h .principals; atoms = h .atoms; forms = forms }
+
+-- The policy lines and the goal.
+pub record PolicyRead : Type 0 where
+  pub lines : List ℕ
+  pub goal : ℕ
+
+unfoldable pub policyPart : List Row → Reader PolicyRead
+unfolding line many _>>=_
+policyPart forms = do
+  n ← line clausesLine clausesRefusal (clausesAt (length forms))
+  lines ← many (clauseItem forms) n []
+  goal ← line goalLine (goalRefusal forms) (goalAt (length forms) (length lines))
+  done record { lines = lines; goal = goal }
+
+-- The steps.
+unfoldable pub stepsPart : ℕ → ℕ → Reader (List Row)
+unfolding line many _>>=_
+stepsPart formulas clauses = do
+  n ← line stepsLine stepsRefusal (stepsAt formulas clauses)
+  many (stepItem formulas clauses) n []
+
+-- The refusals of a formula number by a table of classes.
+unfoldable pub belowRefusal : ℕ → ℕ → ℕ
+belowRefusal n f = demand (ltb f n) 3 0
+
+unfoldable pub classRefusal : (ℕ → Bool) → List ℕ → ℕ → ℕ → ℕ
+classRefusal test classes n f = demand (ltb f n) 3 (demand (test (getD classes f 0)) 5 0)
+
+abbrev pub classedItem : List ℕ → ℕ → List ℕ → Reader ℕ
+classedItem classes formulas before = line clauseLine (classRefusal policyIn classes formulas) (clauseAt formulas (length before))

@@ -1,0 +1,88 @@
+-- The whole file from its sections, and what is left of the text behind each.
+use Prim.Native.Nat.{ℕ}
+use mathlib.Core.Path.{_≡_, refl, sym, _∙_}
+use mathlib.Core.List.{List, []}
+use lib.ListN.{length}
+use Rattle.scope.specs.Request.{Row, Request}
+use Rattle.scope.specs.Line.{Read, ok, bad, Reader, line, many, counted, done, after, _>>=_}
+use Rattle.scope.specs.Refusals.{versionRefusal, principalsRefusal, atomsRefusal, formulasRefusal, clausesRefusal, goalRefusal}
+use Rattle.scope.specs.Limits.{versionAt, principalsAt, atomsAt, formulasAt, clausesAt, goalAt}
+use Rattle.scope.specs.Text.{versionLine, principalsLine, atomsLine, formulasLine, clausesLine, goalLine}
+use Rattle.scope.specs.Reader.{formItem, clauseItem, stepItem, requestLines}
+use Rattle.reader.specs.Sections.{Formulas, PolicyRead, headPart, formulasPart, policyPart, stepsPart}
+use Rattle.reader.specs.Many.{Ends, done-ends, line-ends, seq-ends, many-ends}
+
+after-assoc : {A B C : Type 0} (r : Read A) (f : A → Reader B) (g : B → Reader C) → after (after r f) g ≡ after r (λ a s. after (f a s) g)
+unfolding after
+after-assoc (ok a s) f g = refl
+after-assoc (bad k i) f g = refl
+
+abbrev pub requestOf : Formulas → PolicyRead → List Row → Request
+requestOf f p steps =
+    record { principals = f .principals; atoms = f .atoms; forms = f .forms; lines = p .lines; goal = p .goal; steps = steps }
+
+unfoldable pub sections : Reader Request
+unfolding formulasPart policyPart stepsPart _>>=_
+sections = do
+  f ← formulasPart
+  p ← policyPart (f .forms)
+  steps ← stepsPart (length (f .forms)) (length (p .lines))
+  done (requestOf f p steps)
+
+-- What follows the formulas, and what follows the policy.
+abbrev stepsThen : Formulas → PolicyRead → Reader Request
+stepsThen f p s = after (stepsPart (length (f .forms)) (length (p .lines)) s) (λ steps. done (requestOf f p steps))
+
+abbrev policyThen : Formulas → Reader Request
+policyThen f s =
+    after (counted clausesLine clausesRefusal (clausesAt (length (f .forms))) (clauseItem (f .forms)) s)
+    (λ lines t. after (line goalLine (goalRefusal (f .forms)) (goalAt (length (f .forms)) (length lines)) t)
+    (λ goal. stepsThen f record { lines = lines; goal = goal }))
+
+policy-then : (f : Formulas) (s : List ℕ) → after (policyPart (f .forms) s) (stepsThen f) ≡ policyThen f s
+unfolding policyPart counted _>>=_ after
+policy-then f s = simp after-assoc
+
+formulas-then : {B : Type 0} (g : Formulas → Reader B) (s : List ℕ) → after (formulasPart s) g
+    ≡ after (line versionLine versionRefusal versionAt s)
+    (λ version s₁. after (line principalsLine principalsRefusal principalsAt s₁)
+    (λ principals s₂. after (line atomsLine atomsRefusal atomsAt s₂)
+    (λ atoms s₃. after (line formulasLine formulasRefusal formulasAt s₃)
+    (λ n s₄. after (many (formItem principals atoms) n [] s₄) (λ forms. g record { principals = principals; atoms = atoms; forms = forms })))))
+unfolding formulasPart headPart _>>=_ after
+formulas-then g s = simp after-assoc
+
+pub request-sections : (s : List ℕ) → requestLines s ≡ sections s
+unfolding requestLines sections counted _>>=_ after
+request-sections s =
+    sym
+    ((λ i. after (formulasPart s) (λ f t. policy-then f t i)) ∙
+    formulas-then policyThen s ∙
+    (λ i. after (line versionLine versionRefusal versionAt s)
+    (λ version s₁. after (line principalsLine principalsRefusal principalsAt s₁)
+    (λ principals s₂. after (line atomsLine atomsRefusal atomsAt s₂)
+    (λ atoms s₃. sym (after-assoc (line formulasLine formulasRefusal formulasAt s₃) (λ n. many (formItem principals atoms) n [])
+    (λ forms. policyThen record { principals = principals; atoms = atoms; forms = forms })) i)))))
+
+pub head-ends : Ends headPart
+unfolding headPart
+head-ends =
+    seq-ends _ _ (line-ends _ _ _)
+    (λ version. seq-ends _ _ (line-ends _ _ _) (λ principals. seq-ends _ _ (line-ends _ _ _)
+    (λ atoms. seq-ends _ _ (line-ends _ _ _) (λ formulas. done-ends _))))
+
+pub formulas-ends : Ends formulasPart
+unfolding formulasPart
+formulas-ends = seq-ends _ _ head-ends (λ h. seq-ends _ _
+    (many-ends (formItem (h .principals) (h .atoms)) (h .formulas) [] (λ b. line-ends _ _ _)) (λ forms. done-ends _))
+
+pub policy-ends : (forms : List Row) → Ends (policyPart forms)
+unfolding policyPart
+policy-ends forms =
+    seq-ends _ _ (line-ends _ _ _)
+    (λ n. seq-ends _ _ (many-ends (clauseItem forms) n [] (λ b. line-ends _ _ _))
+    (λ lines. seq-ends _ _ (line-ends goalLine (goalRefusal forms) (goalAt (length forms) (length lines))) (λ goal. done-ends _)))
+
+pub steps-ends : (formulas clauses : ℕ) → Ends (stepsPart formulas clauses)
+unfolding stepsPart
+steps-ends formulas clauses = seq-ends _ _ (line-ends _ _ _) (λ n. many-ends (stepItem formulas clauses) n [] (λ b. line-ends _ _ _))

@@ -1,0 +1,59 @@
+// The first four lines: version, principals, atoms, formulas.
+use crate::Head;
+use crate::NumberLine;
+use lines::Number;
+ghost use mathlib.Core.Path.{_≡_};
+ghost use Prim.Native.Nat.{_≤_};
+ghost use lib.ListN.{length};
+ghost use Rattle.scope.specs.Number.{number};
+ghost use Rattle.scope.specs.Line.{judged};
+ghost use Rattle.scope.specs.Refusals.{countRefusal};
+ghost use Rattle.lines.specs.Parts.{valueOf};
+ghost use Rattle.reader.specs.Answers.{numberLineOf, headOf, formulaCount};
+ghost use Rattle.reader.specs.Sections.{headPart};
+
+// A line with a count between `least` and `most`.
+pub(crate) fn count_line(text: &[u8], key: &[u8], least: u16, most: u16) -> NumberLine
+    ensures { λ r. ⌜ r ≡ numberLineOf (judged (countRefusal least most) (number (valueOf (now (key .entry)) (now (text .entry))))) ⌝ }
+{
+    let value = lines::value_of(text, key);
+    let got = lines::read_number(value);
+    let Number::Value(n) = got else {
+        return NumberLine::Refused(2);
+    };
+    if n < least as u32 {
+        return NumberLine::Refused(3);
+    }
+    if (most as u32) < n {
+        return NumberLine::Refused(3);
+    }
+    NumberLine::Number(n as u16)
+}
+
+pub(crate) fn read_head(text: &[u8]) -> Head
+    ensures { λ r. ⌜ r ≡ headOf (length (now (text .entry))) (headPart (now (text .entry))) ⌝ }
+    ensures { λ r. ⌜ formulaCount r ≤ 1024 ⌝ }
+{
+    let version = count_line(text, b"version=", 1, 1);
+    let NumberLine::Number(_) = version else {
+        return Head::Refused(crate::number_refused(version, 1));
+    };
+    let second = lines::rest_of(text);
+    let principals = count_line(second, b"principals=", 1, 16);
+    let NumberLine::Number(p) = principals else {
+        return Head::Refused(crate::number_refused(principals, 2));
+    };
+    let third = lines::rest_of(second);
+    let atoms = count_line(third, b"atoms=", 1, 256);
+    let NumberLine::Number(a) = atoms else {
+        return Head::Refused(crate::number_refused(atoms, 3));
+    };
+    let fourth = lines::rest_of(third);
+    let formulas = count_line(fourth, b"formulas=", 1, 1024);
+    let NumberLine::Number(f) = formulas else {
+        return Head::Refused(crate::number_refused(formulas, 4));
+    };
+    let rest = lines::rest_of(fourth);
+    let at = text.len() - rest.len();
+    Head::Read(p, a, f, at)
+}

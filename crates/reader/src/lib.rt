@@ -1,0 +1,237 @@
+// Reads a request file into lent tables of 16-bit numbers: 3 a formula, 1 a policy line, 2 a step.
+ghost use mathlib.Core.Path.{_≡_};
+ghost use Prim.Native.Nat.{_≤_};
+ghost use lib.ListN.{length, replicate};
+ghost use Rattle.scope.specs.Request.{Request};
+ghost use Rattle.scope.specs.Reader.{Outcome, read, readRequest};
+ghost use Rattle.scope.specs.Tables.{table, formEntry, lineEntry, stepEntry, hasRoom};
+ghost use Rattle.scope.specs.Calls.{reading, formTableAfter, lineTableAfter, stepTableAfter};
+ghost use Rattle.reader.specs.Answers.{refusalIs, numberRefusal, rowRefused, sectionRefused, headRefused, policyRefused, stepsRefused, readingOf};
+
+mod first_lines;
+mod form_lines;
+mod policy_lines;
+mod step_lines;
+
+// The counts and the goal of a request.
+pub struct Counts {
+    pub principals: u16,
+    pub atoms: u16,
+    pub formulas: u16,
+    pub lines: u16,
+    pub goal: u16,
+    pub steps: u16,
+}
+
+// The number of a refusal, and its place.
+pub struct Refusal {
+    pub number: u16,
+    pub place: u32,
+}
+
+pub enum Reading {
+    Read(Counts),
+    Refused(Refusal),
+}
+
+// The number that a line has, or its refusal.
+enum NumberLine {
+    Number(u16),
+    Refused(u16),
+}
+
+// The kind and the operands that a line has, or its refusal.
+enum RowLine {
+    Row(u16, u16, u16),
+    Refused(u16),
+}
+
+// Lines one after the other: how many bytes they take, or the first refusal.
+enum Section {
+    Read(usize),
+    Refused(Refusal),
+}
+
+// Principals, atoms, formulas, and the bytes up to there.
+enum Head {
+    Read(u16, u16, u16, usize),
+    Refused(Refusal),
+}
+
+// Policy lines, goal, and the bytes up to there.
+enum Policy {
+    Read(u16, u16, usize),
+    Refused(Refusal),
+}
+
+// Steps, and the bytes up to there.
+enum Steps {
+    Read(u16, usize),
+    Refused(Refusal),
+}
+
+// The refusal of a line at its place.
+fn number_refused(line: NumberLine, place: u32) -> Refusal
+    ensures { λ r. ⌜ r ≡ refusalIs (numberRefusal line) place ⌝ }
+{
+    match line {
+        NumberLine::Number(_) => Refusal { number: 0, place },
+        NumberLine::Refused(number) => Refusal { number, place },
+    }
+}
+
+fn row_refused(line: RowLine, place: u32) -> Refusal
+    ensures { λ r. ⌜ r ≡ refusalIs (rowRefused line) place ⌝ }
+{
+    match line {
+        RowLine::Row(_, _, _) => Refusal { number: 0, place },
+        RowLine::Refused(number) => Refusal { number, place },
+    }
+}
+
+fn section_refused(section: Section) -> Refusal
+    ensures { λ r. ⌜ r ≡ sectionRefused section ⌝ }
+{
+    match section {
+        Section::Read(_) => Refusal {
+            number: 0,
+            place: 0,
+        },
+        Section::Refused(refusal) => refusal,
+    }
+}
+
+fn head_refused(head: Head) -> Refusal
+    ensures { λ r. ⌜ r ≡ headRefused head ⌝ }
+{
+    match head {
+        Head::Read(_, _, _, _) => Refusal {
+            number: 0,
+            place: 0,
+        },
+        Head::Refused(refusal) => refusal,
+    }
+}
+
+fn policy_refused(policy: Policy) -> Refusal
+    ensures { λ r. ⌜ r ≡ policyRefused policy ⌝ }
+{
+    match policy {
+        Policy::Read(_, _, _) => Refusal {
+            number: 0,
+            place: 0,
+        },
+        Policy::Refused(refusal) => refusal,
+    }
+}
+
+fn steps_refused(steps: Steps) -> Refusal
+    ensures { λ r. ⌜ r ≡ stepsRefused steps ⌝ }
+{
+    match steps {
+        Steps::Read(_, _) => Refusal {
+            number: 0,
+            place: 0,
+        },
+        Steps::Refused(refusal) => refusal,
+    }
+}
+
+fn zero_table(numbers: &mut [u16])
+    ensures { λ r. ⌜ now (numbers .exit) ≡ replicate (length (now (numbers .entry))) 0 ⌝ }
+{
+    let mut i = 0;
+    while i < numbers.len() {
+        numbers[i] = 0;
+        i += 1;
+    }
+}
+
+fn has_room(forms: usize, policy: usize, steps: usize) -> bool
+    ensures { λ r. ⌜ r ≡ hasRoom forms policy steps ⌝ }
+{
+    if forms < 3072 {
+        return false;
+    }
+    if policy < 128 {
+        return false;
+    }
+    if steps < 4096 {
+        return false;
+    }
+    true
+}
+
+// The lines in order, then 6. The tables are zero and have room.
+fn read_parts(text: &[u8], forms: &mut [u16], policy: &mut [u16], steps: &mut [u16]) -> Reading
+    requires { ⌜ (3072 ≤ length (now forms)) × (now forms ≡ replicate (length (now forms)) 0) × (128 ≤ length (now policy)) × (now policy ≡ replicate (length (now policy)) 0) × (4096 ≤ length (now steps)) × (now steps ≡ replicate (length (now steps)) 0) ⌝ }
+    ensures { λ r. ⌜ r ≡ readingOf (readRequest (now (text .entry))) ⌝ }
+    ensures { λ r. ⌜ ((q : Request) → readRequest (now (text .entry)) ≡ read q → now (forms .exit) ≡ table formEntry (length (now (forms .entry))) (q .forms)) ⌝ }
+    ensures { λ r. ⌜ ((q : Request) → readRequest (now (text .entry)) ≡ read q → now (policy .exit) ≡ table lineEntry (length (now (policy .entry))) (q .lines)) ⌝ }
+    ensures { λ r. ⌜ ((q : Request) → readRequest (now (text .entry)) ≡ read q → now (steps .exit) ≡ table stepEntry (length (now (steps .entry))) (q .steps)) ⌝ }
+{
+    let first = form_lines::read_formulas(text, forms);
+    let Head::Read(principals, atoms, formulas, at) = first else {
+        return Reading::Refused(head_refused(first));
+    };
+    let second = &text[at..];
+    let middle = policy_lines::read_policy(second, formulas, forms, policy);
+    let Policy::Read(clauses, goal, more) = middle else {
+        return Reading::Refused(policy_refused(middle));
+    };
+    let third = &second[more..];
+    let last = step_lines::read_proof(third, formulas, clauses, steps);
+    let Steps::Read(count, end) = last else {
+        return Reading::Refused(steps_refused(last));
+    };
+    if end < third.len() {
+        let place = 8 + formulas as u32 + clauses as u32 + count as u32;
+        return Reading::Refused(Refusal { number: 6, place });
+    }
+    Reading::Read(Counts {
+        principals,
+        atoms,
+        formulas,
+        lines: clauses,
+        goal,
+        steps: count,
+    })
+}
+
+// The request in a file of at most 65,536 bytes. Every lent table is zero past what was read, and all zero after a refusal.
+pub fn read_request(
+    text: &[u8],
+    forms: &mut [u16],
+    policy: &mut [u16],
+    steps: &mut [u16],
+) -> Reading
+    ensures { λ r. ⌜ r ≡ readingOf (reading (length (now (forms .entry))) (length (now (policy .entry))) (length (now (steps .entry))) (now (text .entry))) ⌝ }
+    ensures { λ r. ⌜ now (forms .exit) ≡ formTableAfter (length (now (forms .entry))) (reading (length (now (forms .entry))) (length (now (policy .entry))) (length (now (steps .entry))) (now (text .entry))) ⌝ }
+    ensures { λ r. ⌜ now (policy .exit) ≡ lineTableAfter (length (now (policy .entry))) (reading (length (now (forms .entry))) (length (now (policy .entry))) (length (now (steps .entry))) (now (text .entry))) ⌝ }
+    ensures { λ r. ⌜ now (steps .exit) ≡ stepTableAfter (length (now (steps .entry))) (reading (length (now (forms .entry))) (length (now (policy .entry))) (length (now (steps .entry))) (now (text .entry))) ⌝ }
+{
+    zero_table(forms);
+    zero_table(policy);
+    zero_table(steps);
+    let room = has_room(forms.len(), policy.len(), steps.len());
+    if !room {
+        return Reading::Refused(Refusal {
+            number: 13,
+            place: 0,
+        });
+    }
+    if 65536 < text.len() {
+        return Reading::Refused(Refusal {
+            number: 1,
+            place: 0,
+        });
+    }
+    let got = read_parts(text, forms, policy, steps);
+    let Reading::Read(_) = got else {
+        zero_table(forms);
+        zero_table(policy);
+        zero_table(steps);
+        return got;
+    };
+    got
+}

@@ -1,0 +1,123 @@
+// The policy lines and the goal.
+use crate::NumberLine;
+use crate::Policy;
+use crate::Section;
+use lines::Number;
+ghost use mathlib.Core.Path.{_≡_};
+ghost use Prim.Native.Nat.{ℕ, _≤_};
+ghost use mathlib.Core.List.{List, []};
+ghost use lib.ListN.{length, getD, replicate};
+ghost use Rattle.scope.specs.Bytes.{bytes};
+ghost use Rattle.scope.specs.Number.{number};
+ghost use Rattle.scope.specs.Line.{judged, many, ok};
+ghost use Rattle.scope.specs.Tables.{table, unpack, formEntry, lineEntry};
+ghost use Rattle.classes.specs.Class.{goalIn, policyIn};
+ghost use Rattle.lines.specs.Parts.{valueOf};
+ghost use Rattle.reader.specs.Answers.{numberLineOf, sectionOf, policyOf};
+ghost use Rattle.reader.specs.Sections.{belowRefusal, classRefusal, classedItem, PolicyRead, policyPart};
+
+// A line with a formula number.
+fn formula_line(text: &[u8], key: &[u8], formulas: u16) -> NumberLine
+    ensures { λ r. ⌜ r ≡ numberLineOf (judged (belowRefusal formulas) (number (valueOf (now (key .entry)) (now (text .entry))))) ⌝ }
+{
+    let value = lines::value_of(text, key);
+    let got = lines::read_number(value);
+    let Number::Value(n) = got else {
+        return NumberLine::Refused(2);
+    };
+    if formulas as u32 <= n {
+        return NumberLine::Refused(3);
+    }
+    NumberLine::Number(n as u16)
+}
+
+fn class_in(classes: &[u8], formula: u16) -> u8
+    ensures { λ r. ⌜ r ≡ getD (now (classes .entry)) formula 0 ⌝ }
+{
+    let at = formula as usize;
+    if at < classes.len() { classes[at] } else { 0 }
+}
+
+fn clause_line(text: &[u8], formulas: u16, classes: &[u8]) -> NumberLine
+    ensures { λ r. ⌜ r ≡ numberLineOf (judged (classRefusal policyIn (now (classes .entry)) formulas) (number (valueOf (bytes "clause=") (now (text .entry))))) ⌝ }
+{
+    let got = formula_line(text, b"clause=", formulas);
+    let NumberLine::Number(f) = got else {
+        return got;
+    };
+    let allowed = classes::is_policy(class_in(classes, f));
+    if allowed {
+        return NumberLine::Number(f);
+    }
+    NumberLine::Refused(5)
+}
+
+fn goal_line(text: &[u8], formulas: u16, classes: &[u8]) -> NumberLine
+    ensures { λ r. ⌜ r ≡ numberLineOf (judged (classRefusal goalIn (now (classes .entry)) formulas) (number (valueOf (bytes "goal=") (now (text .entry))))) ⌝ }
+{
+    let got = formula_line(text, b"goal=", formulas);
+    let NumberLine::Number(f) = got else {
+        return got;
+    };
+    let allowed = classes::is_goal(class_in(classes, f));
+    if allowed {
+        return NumberLine::Number(f);
+    }
+    NumberLine::Refused(5)
+}
+
+fn read_clauses(
+    text: &[u8],
+    formulas: u16,
+    classes: &[u8],
+    clauses: u16,
+    policy: &mut [u16],
+) -> Section
+    requires { ⌜ (clauses ≤ 128) × (128 ≤ length (now policy)) × (now policy ≡ replicate (length (now policy)) 0) ⌝ }
+    ensures { λ r. ⌜ r ≡ sectionOf (length (now (text .entry))) (many (classedItem (now (classes .entry)) formulas) clauses [] (now (text .entry))) ⌝ }
+    ensures { λ r. ⌜ ((rows : List ℕ) (rest : List ℕ) → many (classedItem (now (classes .entry)) formulas) clauses [] (now (text .entry)) ≡ ok rows rest → now (policy .exit) ≡ table lineEntry (length (now (policy .entry))) rows) ⌝ }
+{
+    let mut rest = text;
+    let mut i: u16 = 0;
+    while i < clauses {
+        let got = clause_line(rest, formulas, classes);
+        let NumberLine::Number(f) = got else {
+            let place = 6 + formulas as u32 + i as u32;
+            return Section::Refused(crate::number_refused(got, place));
+        };
+        let at = i as usize;
+        policy[at] = f;
+        let next = lines::rest_of(rest);
+        rest = next;
+        i += 1;
+    }
+    let taken = text.len() - rest.len();
+    Section::Read(taken)
+}
+
+pub(crate) fn read_policy(text: &[u8], formulas: u16, forms: &[u16], policy: &mut [u16]) -> Policy
+    requires { ⌜ (formulas ≤ 1024) × (128 ≤ length (now policy)) × (now policy ≡ replicate (length (now policy)) 0) ⌝ }
+    ensures { λ r. ⌜ r ≡ policyOf (length (now (text .entry))) (policyPart (unpack formEntry formulas (now (forms .entry))) (now (text .entry))) ⌝ }
+    ensures { λ r. ⌜ ((p : PolicyRead) (rest : List ℕ) → policyPart (unpack formEntry formulas (now (forms .entry))) (now (text .entry)) ≡ ok p rest → now (policy .exit) ≡ table lineEntry (length (now (policy .entry))) (p .lines)) ⌝ }
+{
+    let count = crate::first_lines::count_line(text, b"clauses=", 0, 128);
+    let NumberLine::Number(clauses) = count else {
+        let place = 5 + formulas as u32;
+        return Policy::Refused(crate::number_refused(count, place));
+    };
+    let second = lines::rest_of(text);
+    let classes = classes::classes_of(forms, formulas);
+    let got = read_clauses(second, formulas, &classes, clauses, policy);
+    let Section::Read(at) = got else {
+        return Policy::Refused(crate::section_refused(got));
+    };
+    let third = &second[at..];
+    let last = goal_line(third, formulas, &classes);
+    let NumberLine::Number(goal) = last else {
+        let place = 6 + formulas as u32 + clauses as u32;
+        return Policy::Refused(crate::number_refused(last, place));
+    };
+    let rest = lines::rest_of(third);
+    let taken = text.len() - rest.len();
+    Policy::Read(clauses, goal, taken)
+}

@@ -1,0 +1,101 @@
+// The `step=` lines.
+use crate::NumberLine;
+use crate::RowLine;
+use crate::Section;
+use crate::Steps;
+use lines::Row;
+ghost use mathlib.Core.Path.{_≡_};
+ghost use Prim.Native.Nat.{ℕ, _≤_};
+ghost use mathlib.Core.List.{List, []};
+ghost use lib.ListN.{length, replicate};
+ghost use Rattle.scope.specs.Bytes.{bytes};
+ghost use Rattle.scope.specs.Line.{judged, many, ok};
+ghost use Rattle.scope.specs.Kinds.{stepKinds, rowIn};
+ghost use Rattle.scope.specs.Refusals.{stepRefusal};
+ghost use Rattle.scope.specs.Request.{Row as StepRow};
+ghost use Rattle.scope.specs.Reader.{stepItem};
+ghost use Rattle.scope.specs.Tables.{table, stepEntry};
+ghost use Rattle.lines.specs.Parts.{valueOf};
+ghost use Rattle.reader.specs.Answers.{rowLineOf, sectionOf, stepsOf};
+ghost use Rattle.reader.specs.Sections.{row, stepsPart};
+
+// `use` and `to` carry a number, the other kinds none.
+fn step_refusal(kind: usize, left: u32, right: u32) -> u16
+    ensures { λ r. ⌜ r ≡ stepRefusal (row kind left right) ⌝ }
+{
+    if 18 <= kind {
+        return 3;
+    }
+    match kind {
+        7 => crate::form_lines::refusal_of(right == 0, left <= 65535, true),
+        10 => crate::form_lines::refusal_of(right == 0, left <= 65535, true),
+        _ => crate::form_lines::refusal_of(
+            crate::form_lines::both_of(left == 0, right == 0),
+            true,
+            true,
+        ),
+    }
+}
+
+fn step_line(text: &[u8]) -> RowLine
+    ensures { λ r. ⌜ r ≡ rowLineOf (judged stepRefusal (rowIn stepKinds (valueOf (bytes "step=") (now (text .entry))))) ⌝ }
+{
+    let value = lines::value_of(text, b"step=");
+    let got = lines::step_row(value);
+    let Row::Items(kind, left, right) = got else {
+        return RowLine::Refused(2);
+    };
+    let refusal = step_refusal(kind, left, right);
+    if refusal != 0 {
+        return RowLine::Refused(refusal);
+    }
+    let k = kind as u16;
+    let x = left as u16;
+    let y = right as u16;
+    RowLine::Row(k, x, y)
+}
+
+fn read_steps(text: &[u8], formulas: u16, clauses: u16, count: u16, steps: &mut [u16]) -> Section
+    requires { ⌜ (count ≤ 2048) × (4096 ≤ length (now steps)) × (now steps ≡ replicate (length (now steps)) 0) ⌝ }
+    ensures { λ r. ⌜ r ≡ sectionOf (length (now (text .entry))) (many (stepItem formulas clauses) count [] (now (text .entry))) ⌝ }
+    ensures { λ r. ⌜ ((rows : List StepRow) (rest : List ℕ) → many (stepItem formulas clauses) count [] (now (text .entry)) ≡ ok rows rest → now (steps .exit) ≡ table stepEntry (length (now (steps .entry))) rows) ⌝ }
+{
+    let mut rest = text;
+    let mut i: u16 = 0;
+    while i < count {
+        let got = step_line(rest);
+        let RowLine::Row(kind, left, _) = got else {
+            let place = 8 + formulas as u32 + clauses as u32 + i as u32;
+            return Section::Refused(crate::row_refused(got, place));
+        };
+        let at = 2 * (i as usize);
+        let second = at + 1;
+        steps[at] = kind;
+        steps[second] = left;
+        let next = lines::rest_of(rest);
+        rest = next;
+        i += 1;
+    }
+    let taken = text.len() - rest.len();
+    Section::Read(taken)
+}
+
+pub(crate) fn read_proof(text: &[u8], formulas: u16, clauses: u16, steps: &mut [u16]) -> Steps
+    requires { ⌜ (4096 ≤ length (now steps)) × (now steps ≡ replicate (length (now steps)) 0) ⌝ }
+    ensures { λ r. ⌜ r ≡ stepsOf (length (now (text .entry))) (stepsPart formulas clauses (now (text .entry))) ⌝ }
+    ensures { λ r. ⌜ ((rows : List StepRow) (rest : List ℕ) → stepsPart formulas clauses (now (text .entry)) ≡ ok rows rest → now (steps .exit) ≡ table stepEntry (length (now (steps .entry))) rows) ⌝ }
+{
+    let line = crate::first_lines::count_line(text, b"steps=", 1, 2048);
+    let NumberLine::Number(count) = line else {
+        let place = 7 + formulas as u32 + clauses as u32;
+        return Steps::Refused(crate::number_refused(line, place));
+    };
+    let rest = lines::rest_of(text);
+    let got = read_steps(rest, formulas, clauses, count, steps);
+    let Section::Read(at) = got else {
+        return Steps::Refused(crate::section_refused(got));
+    };
+    let before = text.len() - rest.len();
+    let taken = before + at;
+    Steps::Read(count, taken)
+}

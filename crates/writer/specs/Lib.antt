@@ -1,0 +1,5 @@
+pub mod Puts
+pub mod Lines
+pub mod Sections
+pub mod Writing
+pub mod RoundTrip

@@ -1,0 +1,99 @@
+-- The text of a request section by section, and a section one line more.
+use Prim.Native.Nat.{ℕ, _+_, _*_}
+use native.Mathlib.Numerals.{add-one}
+use native.Mathlib.Omega.{arith}
+use mathlib.Core.Path.{_≡_, refl, ap, sym, _∙_}
+use mathlib.Core.List.{List, [], _∷_, _++_, append-assoc, append-nil}
+use lib.ListN.{take, drop}
+use Rattle.scope.specs.Bytes.{joined}
+use Rattle.scope.specs.Line.{Line, lineText, manyText, countedText}
+use Rattle.scope.specs.Text.{versionLine, principalsLine, atomsLine, formulasLine, formLine, clausesLine, clauseLine, goalLine, stepsLine, stepLine, requestText}
+use Rattle.scope.specs.Tables.{Lent, Entry, unpack, formEntry, lineEntry, stepEntry, requestOf}
+use Rattle.classes.specs.Rows.{unpack-turn, unpack-length}
+use Rattle.writer.specs.Puts.{Puts, puts-then, puts-same}
+
+-- The lines of the first n things of a table.
+abbrev pub tableText : {A : Type 0} → Line A → Entry A → ℕ → List ℕ → List ℕ
+tableText l e n t = manyText (lineText l) (unpack e n t)
+
+unfoldable pub headText : ℕ → ℕ → List ℕ
+headText principals atoms = (lineText versionLine 1 ++ lineText principalsLine principals) ++ lineText atomsLine atoms
+
+unfoldable pub formulasText : ℕ → List ℕ → List ℕ
+formulasText n t = lineText formulasLine n ++ tableText formLine formEntry n t
+
+unfoldable pub policyText : ℕ → List ℕ → List ℕ
+policyText n t = lineText clausesLine n ++ tableText clauseLine lineEntry n t
+
+unfoldable pub proofText : ℕ → ℕ → List ℕ → List ℕ
+proofText goal n t = (lineText goalLine goal ++ lineText stepsLine n) ++ tableText stepLine stepEntry n t
+
+many-more : {A : Type 0} (text : A → List ℕ) (xs : List A) (x : A) → manyText text (xs ++ (x ∷ [])) ≡ manyText text xs ++ text x
+unfolding manyText joined
+many-more text [] x = append-nil (text x)
+many-more text (y ∷ xs) x = ap (λ (l : List ℕ). text y ++ l) (many-more text xs x) ∙ sym (append-assoc (text y) (manyText text xs) (text x))
+
+-- One line more behind the first i.
+pub table-more : {A : Type 0} (l : Line A) (e : Entry A) (w i : ℕ) (t : List ℕ) (x : A) {a m z : List ℕ} {at end next : ℕ} →
+    e .get (take (e .width) (drop (e .width * i) t)) ≡ x →
+    Puts a at (tableText l e i t) (w * i) m end → Puts m end (lineText l x) w z next →
+    Puts a at (tableText l e (i + 1) t) (w * (i + 1)) z next
+table-more {A} l e w i t x same p q =
+    puts-same
+    (sym
+    (ap (λ (k : ℕ). tableText l e k t) (add-one i) ∙
+    ap (manyText (lineText l)) (unpack-turn e i t) ∙
+    many-more (lineText l) (unpack e i t) (e .get (take (e .width) (drop (e .width * i) t))) ∙
+    ap (λ (y : A). tableText l e i t ++ lineText l y) same))
+    (omega arith)
+    (puts-then p q)
+
+pub table-none : {A : Type 0} (l : Line A) (e : Entry A) (w : ℕ) (t a : List ℕ) (at : ℕ) → Puts a at (tableText l e 0 t) (w * 0) a at
+unfolding manyText joined unpack
+table-none l e w t a at = record { stored = refl; counted = omega arith; short = omega arith }
+
+counted-same : {A : Type 0} (l : Line ℕ) (item : Line A) (e : Entry A) (n : ℕ) (t : List ℕ) →
+    countedText l item (unpack e n t) ≡ lineText l n ++ tableText item e n t
+unfolding countedText
+counted-same l item e n t = ap (λ (k : ℕ). lineText l k ++ tableText item e n t) (unpack-length e n t)
+
+regroup : (v p a f c g s z : List ℕ) →
+    ((((v ++ p) ++ a) ++ f) ++ c) ++ ((g ++ s) ++ z) ≡ v ++ (p ++ (a ++ (f ++ (c ++ (g ++ ((s ++ z) ++ []))))))
+regroup v p a f c g s z = simp (append-assoc, append-nil)
+
+as-joined : (t : Lent) →
+    requestText (requestOf t) ≡
+    joined
+    (lineText versionLine 1 ∷
+    lineText principalsLine (t .principals) ∷
+    lineText atomsLine (t .atoms) ∷
+    countedText formulasLine formLine (unpack formEntry (t .formulas) (t .formTable)) ∷
+    countedText clausesLine clauseLine (unpack lineEntry (t .lines) (t .lineTable)) ∷
+    lineText goalLine (t .goal) ∷
+    countedText stepsLine stepLine (unpack stepEntry (t .steps) (t .stepTable)) ∷
+    [])
+unfolding requestText requestOf
+as-joined t = refl
+
+-- The text of what counts and tables say is its four sections.
+pub request-text : (t : Lent) →
+    ((headText (t .principals) (t .atoms) ++ formulasText (t .formulas) (t .formTable)) ++ policyText (t .lines) (t .lineTable)) ++
+    proofText (t .goal) (t .steps) (t .stepTable) ≡
+    requestText (requestOf t)
+unfolding headText formulasText policyText proofText joined
+request-text t =
+    let v = lineText versionLine 1 in
+    let p = lineText principalsLine (t .principals) in
+    let a = lineText atomsLine (t .atoms) in
+    let f = countedText formulasLine formLine (unpack formEntry (t .formulas) (t .formTable)) in
+    let c = countedText clausesLine clauseLine (unpack lineEntry (t .lines) (t .lineTable)) in
+    let g = lineText goalLine (t .goal) in
+    let n = lineText stepsLine (t .steps) in
+    let z = tableText stepLine stepEntry (t .steps) (t .stepTable) in
+    ap (λ (l : List ℕ). ((((v ++ p) ++ a) ++ l) ++ policyText (t .lines) (t .lineTable)) ++ ((g ++ n) ++ z))
+    (sym (counted-same formulasLine formLine formEntry (t .formulas) (t .formTable))) ∙
+    ap (λ (l : List ℕ). ((((v ++ p) ++ a) ++ f) ++ l) ++ ((g ++ n) ++ z)) (sym (counted-same clausesLine clauseLine lineEntry (t .lines) (t .lineTable))) ∙
+    regroup v p a f c g n z ∙
+    ap (λ (l : List ℕ). v ++ (p ++ (a ++ (f ++ (c ++ (g ++ (l ++ [])))))))
+    (sym (counted-same stepsLine stepLine stepEntry (t .steps) (t .stepTable))) ∙
+    sym (as-joined t)

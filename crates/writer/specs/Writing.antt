@@ -1,0 +1,76 @@
+-- What the writer answers, as document 01 says it.
+use Prim.Native.Nat.{ℕ, zero, suc, _≤_, _<_}
+use native.Mathlib.Nat.{sub-zero}
+use native.Mathlib.Omega.{arith}
+use mathlib.Core.Path.{_≡_, refl, ap, sym, _∙_}
+use mathlib.Core.List.{List, []}
+use borrow.Author.Tests.{le-leb, lt-leb}
+use lib.ListN.{length, replicate}
+use Rattle.scope.specs.Answer.{Answer, answer, refusalIn, placeIn}
+use Rattle.scope.specs.Text.{requestText}
+use Rattle.scope.specs.Tables.{Lent, requestOf, padded}
+use Rattle.scope.specs.Checked.{checked}
+use Rattle.scope.specs.Calls.{Written, written, unwritten, writtenIf, writing, writtenAnswer, textIn, outputAfter}
+use Rattle.tables.specs.declared.Checked.{Checked}
+use Rattle.tables.specs.declared.Checked.the-variants.{Fine, Refused}
+use Rattle.tables.specs.declared.Refusal.{Refusal}
+use Rattle.tables.specs.Met.{checkedOf}
+use Rattle.writer.specs.declared.Writing.{Writing}
+
+-- 'Its answer gives the text's length, 0 if refused.'
+unfoldable pub writingOf : Written → Writing
+writingOf w = record { refusal = refusalIn (writtenAnswer w); place = placeIn (writtenAnswer w); length = length (textIn w) }
+
+unfoldable pub refusedAs : Checked → Writing
+refusedAs Fine = record { refusal = 0; place = 0; length = 0 }
+refusedAs (Refused r) = record { refusal = r .number; place = r .place; length = 0 }
+
+-- An output of zeros is what a refusal leaves.
+zeros-left : (len : ℕ) (w : Written) → textIn w ≡ [] → replicate len 0 ≡ outputAfter len w
+unfolding outputAfter padded
+zeros-left len w e = rw e (ap (λ (n : ℕ). replicate n 0) (sym (sub-zero len)))
+
+if-refused : (a : Answer) (s : List ℕ) (len : ℕ) (r : Refusal) → checkedOf a ≡ Refused r → writtenIf a s len ≡ unwritten (r .number) (r .place)
+unfolding checkedOf writtenIf
+if-refused (answer zero place) s len r e = let z : _≡_ {A = ℕ} 0 1 = cc in absurd (omega arith)
+if-refused (answer (suc k) place) s len r e =
+    let f : record { number = suc k; place = place } ≡ r = cc in
+    ap (λ (x : Refusal). unwritten (x .number) (x .place)) f
+
+if-fits : (a : Answer) (s : List ℕ) (len : ℕ) → checkedOf a ≡ Fine → length s ≤ len → writtenIf a s len ≡ written s
+unfolding checkedOf writtenIf
+if-fits (answer zero place) s len e h = rw (le-leb (length s) len h) refl
+if-fits (answer (suc k) place) s len e h = let z : _≡_ {A = ℕ} 0 1 = cc in absurd (omega arith)
+
+if-short : (a : Answer) (s : List ℕ) (len : ℕ) → checkedOf a ≡ Fine → len < length s → writtenIf a s len ≡ unwritten 14 0
+unfolding checkedOf writtenIf
+if-short (answer zero place) s len e h = rw (lt-leb (length s) len h) refl
+if-short (answer (suc k) place) s len e h = let z : _≡_ {A = ℕ} 0 1 = cc in absurd (omega arith)
+
+pub writing-is : (t : Lent) (len : ℕ) → writing t len ≡ writtenIf (checked t) (requestText (requestOf t)) len
+unfolding writing
+writing-is t len = refl
+
+-- The three ways in which a call ends: what it answers, and what stands in the output.
+pub ends-refused : (t : Lent) (len : ℕ) (c : Checked) (r : Refusal) → c ≡ checkedOf (checked t) → c ≡ Refused r →
+    (refusedAs c ≡ writingOf (writing t len)) × (replicate len 0 ≡ outputAfter len (writing t len))
+unfolding refusedAs writingOf writtenAnswer textIn refusalIn placeIn
+ends-refused t len c r e f =
+    let w : writing t len ≡ unwritten (r .number) (r .place) =
+    writing-is t len ∙ if-refused (checked t) (requestText (requestOf t)) len r (sym e ∙ f) in
+    (ap refusedAs f ∙ ap writingOf (sym w), zeros-left len (writing t len) (ap textIn w))
+
+pub ends-short : (t : Lent) (len : ℕ) (c : Checked) → c ≡ checkedOf (checked t) → c ≡ Fine → len < length (requestText (requestOf t)) →
+    (record { refusal = 14; place = 0; length = 0 } ≡ writingOf (writing t len)) × (replicate len 0 ≡ outputAfter len (writing t len))
+unfolding writingOf writtenAnswer textIn refusalIn placeIn
+ends-short t len c e f h =
+    let w : writing t len ≡ unwritten 14 0 = writing-is t len ∙ if-short (checked t) (requestText (requestOf t)) len (sym e ∙ f) h in
+    (ap writingOf (sym w), zeros-left len (writing t len) (ap textIn w))
+
+pub ends-written : (t : Lent) (len n : ℕ) (c : Checked) → c ≡ checkedOf (checked t) → c ≡ Fine →
+    n ≡ length (requestText (requestOf t)) → length (requestText (requestOf t)) ≤ len →
+    (record { refusal = 0; place = 0; length = n } ≡ writingOf (writing t len)) × (padded len (requestText (requestOf t)) ≡ outputAfter len (writing t len))
+unfolding writingOf writtenAnswer textIn refusalIn placeIn outputAfter
+ends-written t len n c e f k h =
+    let w : writing t len ≡ written (requestText (requestOf t)) = writing-is t len ∙ if-fits (checked t) (requestText (requestOf t)) len (sym e ∙ f) h in
+    (ap (λ (m : ℕ). record { refusal = 0; place = 0; length = m }) k ∙ ap writingOf (sym w), ap (λ (x : Written). outputAfter len x) (sym w))

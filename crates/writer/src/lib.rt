@@ -1,0 +1,73 @@
+// The writer: the text of lent tables, or the refusal of what no text says.
+use sections::put_request;
+use tables::Checked;
+use tables::Counts;
+
+mod digits;
+mod lines;
+mod sections;
+
+ghost use mathlib.Core.Path.{_≡_};
+ghost use lib.ListN.{length, replicate};
+ghost use Rattle.scope.specs.Calls.{writing, outputAfter};
+ghost use Rattle.tables.specs.Met.{lentWith};
+ghost use Rattle.writer.specs.Writing.{writingOf, refusedAs};
+
+// The refusal, 0 where there is none, its place, and the text's length, 0 if refused.
+pub struct Writing {
+    pub refusal: u16,
+    pub place: u32,
+    pub length: usize,
+}
+
+fn zero_all(out: &mut [u8])
+    ensures { λ _. ⌜ now (out .exit) ≡ replicate (length (now (out .entry))) 0 ⌝ }
+{
+    let mut i = 0;
+    while i < out.len() {
+        out[i] = 0;
+        i += 1;
+    }
+}
+
+fn refused_as(checked: Checked) -> Writing
+    ensures { λ r. ⌜ r ≡ refusedAs checked ⌝ }
+{
+    match checked {
+        Checked::Fine => Writing {
+            refusal: 0,
+            place: 0,
+            length: 0,
+        },
+        Checked::Refused(refusal) => Writing {
+            refusal: refusal.number,
+            place: refusal.place,
+            length: 0,
+        },
+    }
+}
+
+pub fn write(counts: Counts, forms: &[u16], lines: &[u16], steps: &[u16], out: &mut [u8]) -> Writing
+    ensures answered { λ r. ⌜ r ≡ writingOf (writing (lentWith counts (now (forms .entry)) (now (lines .entry)) (now (steps .entry))) (length (now (out .entry)))) ⌝ }
+    ensures output { λ _. ⌜ now (out .exit) ≡ outputAfter (length (now (out .entry))) (writing (lentWith counts (now (forms .entry)) (now (lines .entry)) (now (steps .entry))) (length (now (out .entry)))) ⌝ }
+{
+    zero_all(out);
+    let checked = tables::check_tables(counts, forms, lines, steps);
+    let Checked::Fine = checked else {
+        return refused_as(checked);
+    };
+    let length = put_request(counts, forms, lines, steps, out);
+    if out.len() < length {
+        zero_all(out);
+        return Writing {
+            refusal: 14,
+            place: 0,
+            length: 0,
+        };
+    }
+    Writing {
+        refusal: 0,
+        place: 0,
+        length,
+    }
+}

@@ -1,0 +1,115 @@
+// The sections of a request's text, each put behind the one before it.
+use crate::lines::put_count;
+use crate::lines::put_form;
+use crate::lines::put_step;
+use tables::Counts;
+ghost use Prim.Native.Nat.{_<_, _+_, _*_};
+ghost use Rattle.scope.specs.Line.{lineText, manyText};
+ghost use Rattle.scope.specs.Text.{formLine, clauseLine, stepLine, requestText};
+ghost use Rattle.scope.specs.Tables.{unpack, formEntry, lineEntry, stepEntry, requestOf};
+ghost use Rattle.tables.specs.Met.{lentWith};
+ghost use Rattle.writer.specs.Puts.{Puts};
+ghost use Rattle.writer.specs.Sections.{headText, formulasText, policyText, proofText};
+
+fn put_forms(out: &mut [u8], at: usize, count: u16, forms: &[u16]) -> usize
+    requires { ⌜ at < 6000000 ⌝ }
+    ensures { λ r. ⌜ Puts (now (out .entry)) at (manyText (lineText formLine) (unpack formEntry count (now (forms .entry)))) (45 * count) (now (out .exit)) r ⌝ }
+{
+    let mut end = at;
+    let mut i: u16 = 0;
+    while i < count {
+        let first = 3 * (i as usize);
+        let kind = classes::entry_at(forms, first);
+        let left = classes::entry_at(forms, first + 1);
+        let right = classes::entry_at(forms, first + 2);
+        end = put_form(out, end, kind, left, right);
+        i += 1;
+    }
+    end
+}
+
+fn put_clause(out: &mut [u8], at: usize, formula: u16) -> usize
+    requires { ⌜ at < 9970000 ⌝ }
+    ensures { λ r. ⌜ Puts (now (out .entry)) at (lineText clauseLine formula) 22 (now (out .exit)) r ⌝ }
+{
+    put_count(out, at, b"clause=", formula)
+}
+
+fn put_lines(out: &mut [u8], at: usize, count: u16, lines: &[u16]) -> usize
+    requires { ⌜ at < 6000000 ⌝ }
+    ensures { λ r. ⌜ Puts (now (out .entry)) at (manyText (lineText clauseLine) (unpack lineEntry count (now (lines .entry)))) (22 * count) (now (out .exit)) r ⌝ }
+{
+    let mut end = at;
+    let mut i: u16 = 0;
+    while i < count {
+        let formula = classes::entry_at(lines, i as usize);
+        end = put_clause(out, end, formula);
+        i += 1;
+    }
+    end
+}
+
+fn put_steps(out: &mut [u8], at: usize, count: u16, steps: &[u16]) -> usize
+    requires { ⌜ at < 6000000 ⌝ }
+    ensures { λ r. ⌜ Puts (now (out .entry)) at (manyText (lineText stepLine) (unpack stepEntry count (now (steps .entry)))) (45 * count) (now (out .exit)) r ⌝ }
+{
+    let mut end = at;
+    let mut i: u16 = 0;
+    while i < count {
+        let first = 2 * (i as usize);
+        let kind = classes::entry_at(steps, first);
+        let number = classes::entry_at(steps, first + 1);
+        end = put_step(out, end, kind, number);
+        i += 1;
+    }
+    end
+}
+
+fn put_head(out: &mut [u8], principals: u16, atoms: u16) -> usize
+    ensures { λ r. ⌜ Puts (now (out .entry)) 0 (headText principals atoms) 66 (now (out .exit)) r ⌝ }
+{
+    let first = put_count(out, 0, b"version=", 1);
+    let second = put_count(out, first, b"principals=", principals);
+    put_count(out, second, b"atoms=", atoms)
+}
+
+fn put_formulas(out: &mut [u8], at: usize, count: u16, forms: &[u16]) -> usize
+    requires { ⌜ at < 5000000 ⌝ }
+    ensures { λ r. ⌜ Puts (now (out .entry)) at (formulasText count (now (forms .entry))) (22 + 45 * count) (now (out .exit)) r ⌝ }
+{
+    let next = put_count(out, at, b"formulas=", count);
+    put_forms(out, next, count, forms)
+}
+
+fn put_policy(out: &mut [u8], at: usize, count: u16, lines: &[u16]) -> usize
+    requires { ⌜ at < 5000000 ⌝ }
+    ensures { λ r. ⌜ Puts (now (out .entry)) at (policyText count (now (lines .entry))) (22 + 22 * count) (now (out .exit)) r ⌝ }
+{
+    let next = put_count(out, at, b"clauses=", count);
+    put_lines(out, next, count, lines)
+}
+
+fn put_proof(out: &mut [u8], at: usize, goal: u16, count: u16, steps: &[u16]) -> usize
+    requires { ⌜ at < 5000000 ⌝ }
+    ensures { λ r. ⌜ Puts (now (out .entry)) at (proofText goal count (now (steps .entry))) (44 + 45 * count) (now (out .exit)) r ⌝ }
+{
+    let second = put_count(out, at, b"goal=", goal);
+    let next = put_count(out, second, b"steps=", count);
+    put_steps(out, next, count, steps)
+}
+
+// The whole text of what counts and tables say.
+pub(crate) fn put_request(
+    counts: Counts,
+    forms: &[u16],
+    lines: &[u16],
+    steps: &[u16],
+    out: &mut [u8],
+) -> usize
+    ensures { λ r. ⌜ Puts (now (out .entry)) 0 (requestText (requestOf (lentWith counts (now (forms .entry)) (now (lines .entry)) (now (steps .entry))))) (66 + (22 + 45 * counts .formulas) + (22 + 22 * counts .lines) + (44 + 45 * counts .steps)) (now (out .exit)) r ⌝ }
+{
+    let formulas = put_head(out, counts.principals, counts.atoms);
+    let policy = put_formulas(out, formulas, counts.formulas, forms);
+    let proof = put_policy(out, policy, counts.lines, lines);
+    put_proof(out, proof, counts.goal, counts.steps, steps)
+}
