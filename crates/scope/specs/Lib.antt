@@ -15,7 +15,6 @@ pub mod Walk
 pub mod Bytes
 pub mod Number
 pub mod Line
-pub mod Parts
 pub mod Kinds
 pub mod Limits
 pub mod Refusals

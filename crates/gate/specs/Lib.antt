@@ -1,0 +1,2 @@
+-- What the contracts of the gate program cite.
+pub mod Shown

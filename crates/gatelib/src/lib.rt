@@ -1,0 +1,61 @@
+// The gate: from the bytes of a file to the three numbers that are printed.
+ghost use mathlib.Core.Path.{_≡_};
+ghost use Rattle.scope.specs.Judge.{gate as gate'};
+ghost use Rattle.gatelib.specs.Printing.{printedOf, unreadOf, countsTold};
+use reader::Reading;
+
+// The refusal number, the place, and the steps read (0 if reading is refused).
+pub struct Printed {
+    pub answer: u16,
+    pub place: u32,
+    pub steps: u16,
+}
+
+fn unread_by(got: Reading) -> Printed
+    ensures { λ r. ⌜ r ≡ unreadOf got ⌝ }
+{
+    match got {
+        Reading::Read(_) => Printed {
+            answer: 0,
+            place: 0,
+            steps: 0,
+        },
+        Reading::Refused(r) => Printed {
+            answer: r.number,
+            place: r.place,
+            steps: 0,
+        },
+    }
+}
+
+fn counts_told(c: reader::Counts) -> tables::Counts
+    ensures { λ r. ⌜ r ≡ countsTold c ⌝ }
+{
+    tables::Counts {
+        principals: c.principals,
+        atoms: c.atoms,
+        formulas: c.formulas,
+        lines: c.lines,
+        goal: c.goal,
+        steps: c.steps,
+    }
+}
+
+pub fn gate(file: &[u8]) -> Printed
+    ensures { λ r. ⌜ r ≡ printedOf (gate' (now (file .entry))) ⌝ }
+{
+    let mut forms = [0u16; 3072];
+    let mut lines = [0u16; 128];
+    let mut steps = [0u16; 4096];
+    let got = reader::read_request(file, &mut forms, &mut lines, &mut steps);
+    let Reading::Read(counts) = got else {
+        return unread_by(got);
+    };
+    let told = counts_told(counts);
+    let a = judge::judge(told, &forms, &lines, &steps);
+    Printed {
+        answer: a.refusal,
+        place: a.place,
+        steps: counts.steps,
+    }
+}
