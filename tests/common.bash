@@ -14,7 +14,9 @@ build_oracle() {
 build_program() { # NAME
     local built=$root/target/bin/$1 guide kit emulator
     if [[ ! -x $built || -n $(find "$root/crates" "$root/crates.txt" -newer "$built" -print -quit) ]]; then
-        (cd "$root" && rt check "$1")
+        echo "proving and building $1, some minutes from nothing .." >&2
+        mkdir -p "$root/target"
+        (cd "$root" && rt check "$1" >target/check.log 2>&1) || { cat "$root/target/check.log" >&2; return 1; }
     fi
     guide=$(rt doc)
     kit=${guide%/docs/START-HERE.md}/on/$(uname -m)/toolchain
