@@ -9,7 +9,7 @@ use Rattle.scope.specs.Bytes.{bytes}
 use Rattle.scope.specs.Text.{requestText}
 use Rattle.scope.specs.Tables.{lentOf}
 use Rattle.scope.specs.Calls.{writing, writtenAnswer}
-use Rattle.scope.specs.Judge.{prints, gate}
+use Rattle.scope.specs.Judge.{Printed, prints, gate}
 
 abbrev pub row : ℕ → ℕ → ℕ → Row
 row k l r = record { kind = k; left = l; right = r }
@@ -90,22 +90,33 @@ pushed n =
     (imp′ ∷ pushes n ++ top′ ∷ [])
 
 -- The last four limits, each kept and passed by one; the place is the first step that would pass it.
-pub limits-hold :
-    map (λ (q : Request). gate (requestText q))
-    (nested 31 ∷ nested 32 ∷ conjoined 255 ∷ conjoined 256 ∷ implied 255 ∷ implied 256 ∷ parted 15 ∷ parted 16 ∷ pushed 127 ∷ pushed 128 ∷ [])
-    ≡ prints 0 0 32 ∷
-    prints 10 32 33 ∷
-    prints 0 0 511 ∷
-    prints 10 256 513 ∷
-    prints 0 0 512 ∷
-    prints 10 257 514 ∷
-    prints 0 0 33 ∷
-    prints 10 17 35 ∷
-    prints 0 0 257 ∷
-    prints 10 258 259 ∷
-    []
-unfolding gate requestText nested conjoined implied parted pushed
-limits-hold = refl
+abbrev pub both-sides : (ℕ → Request) → ℕ → List Printed
+both-sides q n = gate (requestText (q n)) ∷ gate (requestText (q (suc n))) ∷ []
+
+pub worlds-hold : both-sides nested 31 ≡ prints 0 0 32 ∷ prints 10 32 33 ∷ []
+unfolding gate requestText nested
+worlds-hold = refl
+
+pub waiting-hold : both-sides conjoined 255 ≡ prints 0 0 511 ∷ prints 10 256 513 ∷ []
+unfolding gate requestText conjoined
+waiting-hold = refl
+
+pub met-hold : both-sides implied 255 ≡ prints 0 0 512 ∷ prints 10 257 514 ∷ []
+unfolding gate requestText implied
+met-hold = refl
+
+pub chunks-hold : both-sides parted 15 ≡ prints 0 0 33 ∷ prints 10 17 35 ∷ []
+unfolding gate requestText parted
+chunks-hold = refl
+
+pub clauses-hold : both-sides pushed 127 ≡ prints 0 0 257 ∷ prints 10 258 259 ∷ []
+unfolding gate requestText pushed
+clauses-hold = refl
+
+-- A file of 65,536 bytes, and one of a byte more.
+pub bytes-hold : gate (replicate 65536 120) ∷ gate (replicate 65537 120) ∷ [] ≡ prints 2 1 0 ∷ prints 1 0 0 ∷ []
+unfolding gate
+bytes-hold = refl
 
 unfoldable pub texts : List (List ℕ)
 texts =
@@ -150,9 +161,6 @@ texts =
     bytes "version=1\nprincipals=1\natoms=1\nformulas=2\nform=sf 0 0\nform=p 0\nclauses=1\nclause=0\ngoal=1\nsteps=1\nstep=use 0\n" ∷
     -- a `top` in focus has no step
     bytes "version=1\nprincipals=1\natoms=1\nformulas=2\nform=top\nform=p 0\nclauses=1\nclause=0\ngoal=1\nsteps=2\nstep=use 0\nstep=hit\n" ∷
-    -- a file of 65,536 bytes, and one of a byte more
-    replicate 65536 120 ∷
-    replicate 65537 120 ∷
     []
 
 pub texts-hold :
@@ -182,8 +190,6 @@ pub texts-hold :
     prints 6 10 0 ∷
     prints 8 1 1 ∷
     prints 7 2 2 ∷
-    prints 2 1 0 ∷
-    prints 1 0 0 ∷
     []
 unfolding gate texts
 texts-hold = refl
