@@ -10,7 +10,7 @@ use lib.ListN.{length}
 use Rattle.scope.specs.Request.{Request}
 use Rattle.scope.specs.Limits.{mostBytes}
 use Rattle.scope.specs.Line.{Line, Value, val, out, Read, ok, bad, Reader, Cut, parts, uncut, cut, strip, settled, judged, valued, placed, lineOf, line, after, _>>=_, done, many, counted}
-use Rattle.scope.specs.Reader.{Outcome, read, refused, requestLines, ended, readRequest}
+use Rattle.scope.specs.Reader.{refused, requestLines, ended, readRequest}
 use Rattle.scope.specs.Tables.{hasRoom}
 use Rattle.scope.specs.Calls.{reading}
 use Rattle.trip.specs.Tests.{never}

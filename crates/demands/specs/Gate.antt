@@ -1,15 +1,13 @@
 -- The demands for the gate, from a file's bytes to the three numbers printed.
-use Prim.Native.Nat.{ℕ, zero, suc, _*_, _<_, _≤_}
+use Prim.Native.Nat.{ℕ, zero, _*_}
 use mathlib.Core.Path.{_≡_, refl, sym, ap, _∙_}
-use mathlib.Core.Logic.{_↔_}
 use mathlib.Core.List.{List}
 use lib.ListN.{length}
 use Rattle.scope.specs.Answer.{Answer, answer}
 use Rattle.scope.specs.Limits.{mostFormulas, mostPolicyLines, mostSteps}
 use Rattle.scope.specs.Request.{Request}
 use Rattle.scope.specs.Reader.{Outcome, read, refused}
-use Rattle.scope.specs.Tables.{Lent, requestOf, lentOf}
-use Rattle.scope.specs.Checked.{checked}
+use Rattle.scope.specs.Tables.{requestOf, lentOf}
 use Rattle.scope.specs.Calls.{reading}
 use Rattle.scope.specs.Derivation.{Derivation}
 use Rattle.scope.specs.Room.{within}
@@ -17,7 +15,7 @@ use Rattle.scope.specs.Judge.{policyOf, goalOf, stepsOf, startOf, stepsAnswer, 
 use Rattle.scope.specs.Models.{Entailed}
 use Rattle.granted.specs.Reasons.{Settled, grants}
 use native.Mathlib.Omega.{arith}
-use Rattle.trip.specs.Requests.{read-sound}
+use Rattle.trip.specs.Requests.{read-unrefused}
 use Rattle.trip.specs.Trip.{got, read-fine, fine-checked}
 use Rattle.demands.specs.Firm.{reading-firm}
 use Rattle.demands.specs.Judged.{steps-settled, zero-granted, steps-entail, judge-law, else-passes}
@@ -92,7 +90,7 @@ granted-gate s place n e = granting s (gate s) place n (gate-prints s) e
 -- Demand 3.
 pub gate-entails : (s : List ℕ) (q : Request) → Granting s q → Entailed (q .principals) (q .atoms) (policyOf q) (goalOf q)
 gate-entails s q g =
-    steps-entail q (read-sound s q (got (3 * mostFormulas) mostPolicyLines (2 * mostSteps) s q (g .reads) .request))
+    steps-entail q (read-unrefused s q (got (3 * mostFormulas) mostPolicyLines (2 * mostSteps) s q (g .reads) .request))
     (steps-settled q (answer 0 0) .1 (grants (g .derives)))
 
 -- The gate is the judge on the tables that reading left.

@@ -5,9 +5,9 @@ use mathlib.Core.Path.{_≡_, refl, sym, _∙_}
 use mathlib.Core.Logic.{_↔_}
 use native.Mathlib.Omega.{arith}
 use Rattle.scope.specs.Answer.{Answer, answer}
-use Rattle.scope.specs.Request.{Request, formula}
+use Rattle.scope.specs.Request.{Request}
 use Rattle.scope.specs.Tables.{Lent, requestOf}
-use Rattle.scope.specs.Checked.{firstMet, checked}
+use Rattle.scope.specs.Checked.{checked}
 use Rattle.scope.specs.Derivation.{Derivation}
 use Rattle.scope.specs.Room.{within}
 use Rattle.scope.specs.Judge.{policyOf, goalOf, stepsOf, startOf, stepsAnswer, else, judge}
@@ -17,7 +17,7 @@ use Rattle.granted.specs.Granted.{granted}
 use Rattle.granted.specs.FirstBreak.{settled, break-range}
 use Rattle.sound.specs.Rows.{request-sound}
 use Rattle.trip.specs.Tests.{never}
-use Rattle.trip.specs.File.{Sound}
+use Rattle.trip.specs.File.{Unrefused}
 use Rattle.trip.specs.Trip.{checked-fine, unmet}
 use Rattle.demands.specs.InRange.{rows-in}
 
@@ -36,7 +36,7 @@ zero-granted q a r (breaks {k = k} b) e =
     absurd (omega arith)
 
 -- Granted steps of a request without refusal: in every model, at each world where every policy line holds, the goal holds.
-pub steps-entail : (q : Request) → Sound q → stepsAnswer q ≡ answer 0 0 → Entailed (q .principals) (q .atoms) (policyOf q) (goalOf q)
+pub steps-entail : (q : Request) → Unrefused q → stepsAnswer q ≡ answer 0 0 → Entailed (q .principals) (q .atoms) (policyOf q) (goalOf q)
 unfolding stepsAnswer startOf policyOf goalOf
 steps-entail q s e =
     request-sound within q (stepsOf q) (rows-in (q .principals) (q .atoms) (s .forms)) (granted within (startOf q) (stepsOf q) .0 e)
@@ -101,7 +101,7 @@ pub judge-entails : (t : Lent) → judge t ≡ answer 0 0 → Entailed (t .princ
 unfolding requestOf
 judge-entails t e =
     let g = judge-grants t .0 e in
-    steps-entail (requestOf t) (checked-fine t (g .fine) .sound) (steps-settled (requestOf t) (answer 0 0) .1 (grants (g .derives)))
+    steps-entail (requestOf t) (checked-fine t (g .fine) .unrefused) (steps-settled (requestOf t) (answer 0 0) .1 (grants (g .derives)))
 
 -- In the other form: a request that some model refutes is not granted.
 pub judge-refuted : (t : Lent) (m : Model) → Frame (t .principals) (t .atoms) m → (w : ℕ) → w < m .worlds →

@@ -7,21 +7,22 @@ use lib.ListN.{getD, set, replicate}
 use lib.Bits.{bitOr}
 use lib.Dec.{eqb, ltb}
 use Rattle.scope.specs.Form.{both}
+use Rattle.scope.specs.Limits.{mostWorlds, mostPrincipals}
 use Rattle.scope.specs.Facts.{Fact, le, by, sf}
 use Rattle.facts.specs.Fill.{fill}
 
 -- A row has a bit for each world; each world has one row of ≤, one of its ancestors, and one of S and one of sf for each principal.
 abbrev pub worldsMax : ℕ
-worldsMax = 32
+worldsMax = mostWorlds
 
 abbrev pub principalsMax : ℕ
-principalsMax = 16
+principalsMax = mostPrincipals
 
 abbrev pub rowsEach : ℕ
-rowsEach = 34
+rowsEach = 2 + 2 * principalsMax
 
 abbrev pub rowsMax : ℕ
-rowsMax = 1088
+rowsMax = worldsMax * rowsEach
 
 abbrev pub rowAt : ℕ → ℕ → ℕ
 rowAt v part = v * rowsEach + part
@@ -38,7 +39,7 @@ abbrev pub byAt : ℕ → ℕ
 byAt v = rowAt v 2
 
 abbrev pub sfAt : ℕ → ℕ
-sfAt v = rowAt v 18
+sfAt v = rowAt v (2 + principalsMax)
 
 abbrev pub when : Bool → ℕ → ℕ
 when true x = x

@@ -1,7 +1,7 @@
 -- What a move makes of the current obligation and of the rows of facts, as numbers.
-use Prim.Native.Nat.{ℕ, suc, _+_, _-_}
-use mathlib.Core.List.{List, []}
-use lib.ListN.{getD, set, replicate}
+use Prim.Native.Nat.{ℕ, _+_, _-_}
+use mathlib.Core.List.{List}
+use lib.ListN.{getD, set}
 use lib.Dec.{leb}
 use Rattle.facts.specs.declared.World.{World}
 use Rattle.facts.specs.Rows.{grownLe, grownBy, noted, putSf}

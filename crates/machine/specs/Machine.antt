@@ -1,11 +1,9 @@
--- The walk through the steps over tables of numbers. Crate `judge` proves that it answers as document 01's walk does.
+-- The walk through the steps over tables of numbers. Crate `walks` proves that it answers as document 01's walk does.
 use Prim.Native.Nat.{ℕ, zero, suc, _+_, _-_, _*_}
-use mathlib.Core.Bool.{Bool, true, false}
 use mathlib.Core.List.{List, [], _∷_}
 use lib.ListN.{getD, set, replicate}
 use lib.Dec.{eqb}
 use Rattle.facts.specs.Rows.{sfRows, rootRows, noted}
-use Rattle.moves.specs.declared.Phase.{Phase}
 use Rattle.moves.specs.declared.Phase.the-variants as phase
 use Rattle.moves.specs.declared.Move.{Move}
 use Rattle.moves.specs.declared.Step.{Step}
@@ -15,7 +13,6 @@ use Rattle.moves.specs.declared.Judged.the-variants.{Fits, No}
 use Rattle.moves.specs.Steps.{pick}
 use Rattle.moves.specs.Judge.{rowAt, judgeStep}
 use Rattle.machine.specs.declared.Obligation.{Obligation}
-use Rattle.machine.specs.declared.Change.{Change}
 use Rattle.machine.specs.declared.Walked.{Walked}
 use Rattle.machine.specs.declared.Walked.the-variants.{Granted, Refused}
 use Rattle.machine.specs.Change.{lab, topChunk, goalIn, changeOf, rowsAfter}

@@ -1,10 +1,11 @@
 -- What each of the eighteen steps comes to on the numbers of a formula's row, tests in the order of the refusals 7, 8, 9, 10.
--- crate `judge` proves that these are document 01's steps (scope's `stepOn` and `within`).
+-- crate `walks` proves that these are document 01's steps (scope's `stepOn` and `within`).
 use Prim.Native.Nat.{ℕ}
 use mathlib.Core.Bool.{Bool, true, false}
 use mathlib.Core.List.{List}
 use lib.Dec.{eqb, leb}
 use Rattle.scope.specs.Facts as Fact
+use Rattle.scope.specs.Limits.{mostWorlds, mostClauses, mostOpen, mostChunks}
 use Rattle.facts.specs.Rows.{told}
 use Rattle.facts.specs.declared.World.{World}
 use Rattle.facts.specs.declared.Principal.{Principal}
@@ -32,7 +33,7 @@ principal a = record { 0 = a }
 
 unfoldable pub andStep : Row → World → ℕ → Judged
 andStep r u opened =
-    pick (eqb (r .kind) 3) (pick (leb 256 opened) (No 10) (Fits (move.Both (lab (r .left) u) (lab (r .right) u)))) (No 7)
+    pick (eqb (r .kind) 3) (pick (leb mostOpen opened) (No 10) (Fits (move.Both (lab (r .left) u) (lab (r .right) u)))) (No 7)
 
 unfoldable pub or1Step : Row → World → Judged
 or1Step r u = pick (eqb (r .kind) 4) (Fits (move.Go (phase.Goal (lab (r .left) u)))) (No 7)
@@ -41,11 +42,11 @@ unfoldable pub or2Step : Row → World → Judged
 or2Step r u = pick (eqb (r .kind) 4) (Fits (move.Go (phase.Goal (lab (r .right) u)))) (No 7)
 
 unfoldable pub impStep : Row → ℕ → Judged
-impStep r worlds = pick (eqb (r .kind) 5) (pick (leb 32 worlds) (No 10) (Fits (move.Less (r .left) (r .right)))) (No 7)
+impStep r worlds = pick (eqb (r .kind) 5) (pick (leb mostWorlds worlds) (No 10) (Fits (move.Less (r .left) (r .right)))) (No 7)
 
 unfoldable pub saysStep : Row → ℕ → Judged
 saysStep r worlds =
-    pick (eqb (r .kind) 6) (pick (leb 32 worlds) (No 10) (Fits (move.Speak (principal (r .left)) (r .right)))) (No 7)
+    pick (eqb (r .kind) 6) (pick (leb mostWorlds worlds) (No 10) (Fits (move.Speak (principal (r .left)) (r .right)))) (No 7)
 
 unfoldable pub topStep : Row → Judged
 topStep r = pick (eqb (r .kind) 1) (Fits move.Close) (No 7)
@@ -72,7 +73,7 @@ unfoldable pub toImp : List ℕ → Row → World → World → Lab → ℕ → 
 toImp rows r u v target worlds opened =
     pick (leb worlds (v .0)) (No 8)
     (pick (told rows (Fact.le (u .0) (v .0)))
-    (pick (leb 256 opened) (No 10) (Fits (move.Meet (lab (r .left) v) (phase.Focus (lab (r .right) v) target))))
+    (pick (leb mostOpen opened) (No 10) (Fits (move.Meet (lab (r .left) v) (phase.Focus (lab (r .right) v) target))))
     (No 9))
 
 unfoldable pub toSays : List ℕ → Row → World → World → Lab → ℕ → Judged
@@ -99,13 +100,13 @@ pushedKind kind = pick (eqb kind 0) true (pick (eqb kind 5) true (eqb kind 6))
 
 unfoldable pub pushStep : Row → ℕ → Judged
 unfolding pushedKind
-pushStep r clauses = pick (pushedKind (r .kind)) (pick (leb 256 clauses) (No 10) (Fits move.Push)) (No 7)
+pushStep r clauses = pick (pushedKind (r .kind)) (pick (leb mostClauses clauses) (No 10) (Fits move.Push)) (No 7)
 
 unfoldable pub splitStep : Row → ℕ → Judged
-splitStep r count = pick (eqb (r .kind) 3) (pick (leb 16 count) (No 10) (Fits (move.Split (r .left) (r .right)))) (No 7)
+splitStep r count = pick (eqb (r .kind) 3) (pick (leb mostChunks count) (No 10) (Fits (move.Split (r .left) (r .right)))) (No 7)
 
 unfoldable pub caseStep : Row → ℕ → Judged
-caseStep r opened = pick (eqb (r .kind) 4) (pick (leb 256 opened) (No 10) (Fits (move.Case (r .left) (r .right)))) (No 7)
+caseStep r opened = pick (eqb (r .kind) 4) (pick (leb mostOpen opened) (No 10) (Fits (move.Case (r .left) (r .right)))) (No 7)
 
 unfoldable pub absurdStep : Row → Judged
 absurdStep r = pick (eqb (r .kind) 2) (Fits move.Close) (No 7)

@@ -37,7 +37,7 @@ pub(crate) fn right_step(r: Row, u: World, target: Lab) -> Judged
 }
 
 fn to_imp(
-    rows: &[u32; ROWS],
+    rows: &[facts::Row; ROWS],
     r: Row,
     u: World,
     v: World,
@@ -70,7 +70,7 @@ fn to_imp(
     }
 }
 
-fn to_says(rows: &[u32; ROWS], r: Row, u: World, v: World, target: Lab, worlds: u16) -> Judged
+fn to_says(rows: &[facts::Row; ROWS], r: Row, u: World, v: World, target: Lab, worlds: u16) -> Judged
     ensures { λ j. ⌜ j ≡ toSays (now (rows .entry)) r u v target worlds ⌝ }
 {
     if worlds <= v.0 {
@@ -88,7 +88,7 @@ fn to_says(rows: &[u32; ROWS], r: Row, u: World, v: World, target: Lab, worlds: 
 }
 
 pub(crate) fn to_step(
-    rows: &[u32; ROWS],
+    rows: &[facts::Row; ROWS],
     r: Row,
     u: World,
     v: World,
@@ -108,7 +108,7 @@ pub(crate) fn to_step(
 }
 
 // The target's atom by its number: two formulas may be the same atom.
-pub(crate) fn hit_step(rows: &[u32; ROWS], r: Row, u: World, atom: u16, w: World) -> Judged
+pub(crate) fn hit_step(rows: &[facts::Row; ROWS], r: Row, u: World, atom: u16, w: World) -> Judged
     ensures { λ j. ⌜ j ≡ hitStep (now (rows .entry)) r u atom w ⌝ }
 {
     if r.kind != 0 {

@@ -90,7 +90,7 @@ pub(crate) fn top_step(r: Row) -> Judged
     Judged::Fits(Move::Close)
 }
 
-pub(crate) fn sf_step(rows: &[u32; ROWS], r: Row, u: World) -> Judged
+pub(crate) fn sf_step(rows: &[facts::Row; ROWS], r: Row, u: World) -> Judged
     ensures { λ j. ⌜ j ≡ sfStep (now (rows .entry)) r u ⌝ }
 {
     if r.kind != 7 {

@@ -82,7 +82,7 @@ fn use_clause(
 
 fn goal_step(
     forms: &[u16],
-    rows: &[u32; ROWS],
+    rows: &[facts::Row; ROWS],
     clauses: &[u16; CLAUSES],
     ats: &[u16; CLAUSES],
     g: Lab,
@@ -121,7 +121,7 @@ fn goal_step(
 
 fn focus_step(
     forms: &[u16],
-    rows: &[u32; ROWS],
+    rows: &[facts::Row; ROWS],
     part: Lab,
     target: Lab,
     x: Step,
@@ -189,7 +189,7 @@ fn chunk_step(forms: &[u16], f: u16, count: u16, x: Step, clauses: u16, opened: 
 // The current obligation by its phase, its topmost chunk, its worlds and clauses; opened is the number of open obligations.
 pub fn judge_step(
     forms: &[u16],
-    rows: &[u32; ROWS],
+    rows: &[facts::Row; ROWS],
     clauses: &[u16; CLAUSES],
     ats: &[u16; CLAUSES],
     phase: Phase,

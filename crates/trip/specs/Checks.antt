@@ -8,7 +8,7 @@ use Rattle.scope.specs.Request.{Request}
 use Rattle.scope.specs.Checked.{firstMet, eachOf, lineAnswers}
 use Rattle.trip.specs.Tests.{never}
 use Rattle.trip.specs.Several.{Two, two, Each, none-left, one-more}
-use Rattle.trip.specs.File.{Sound}
+use Rattle.trip.specs.File.{Unrefused}
 
 pub nothing-met : firstMet [] ≡ answer 0 0
 unfolding firstMet
@@ -62,9 +62,9 @@ module _ {A : Type 0} (refusal : List A → A → ℕ) (place : List A → ℕ) 
       passes (refusal before x) (place before) (eachOf (λ b y. answer (refusal b y) (place b)) (before ++ (x ∷ [])) xs) g ∙
       each-passes e
 
-pub lines-sound : (q : Request) → firstMet (lineAnswers q) ≡ answer 0 0 → Sound q
+pub lines-unrefused : (q : Request) → firstMet (lineAnswers q) ≡ answer 0 0 → Unrefused q
 unfolding lineAnswers
-lines-sound q e =
+lines-unrefused q e =
     let a = met-first _ _ _ e in
     let b = met-first _ _ _ (a .two) in
     let c = met-first _ _ _ (b .two) in
@@ -86,9 +86,9 @@ lines-sound q e =
       steps = each-met _ _ [] (q .steps) (j .one);
     }
 
-pub sound-lines : (q : Request) → Sound q → firstMet (lineAnswers q) ≡ answer 0 0
+pub unrefused-lines : (q : Request) → Unrefused q → firstMet (lineAnswers q) ≡ answer 0 0
 unfolding lineAnswers
-sound-lines q g =
+unrefused-lines q g =
     passes _ _ _ (g .principals) ∙
     passes _ _ _ (g .atoms) ∙
     passes _ _ _ (g .formulas) ∙

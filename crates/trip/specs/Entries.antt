@@ -21,7 +21,7 @@ use Rattle.trip.specs.RowRanges.{row-passed}
 use Rattle.trip.specs.Small.{count-passed}
 use Rattle.trip.specs.Several.{Each}
 use Rattle.trip.specs.Several as Several
-use Rattle.trip.specs.File.{Sound}
+use Rattle.trip.specs.File.{Unrefused}
 use Rattle.trip.specs.Packing.{Laid, All, none-left, one-more, table-back, table-there, table-past, table-length}
 
 abbrev Any : {A : Type 0} → A → Type 0
@@ -103,7 +103,7 @@ record Sized (q : Request) : Type 0 where
   lines : length (q .lines) ≤ 128
   steps : length (q .steps) ≤ 2048
 
-sized : (q : Request) → Sound q → Sized q
+sized : (q : Request) → Unrefused q → Sized q
 sized q g =
     record {
       forms = count-passed 1 1024 (length (q .forms)) (g .formulas) .high;
@@ -116,7 +116,7 @@ one-times n = omega arith
 
 -- Tables that pass stand as reading their request would leave them.
 pub lent-back :
-    (t : Lent) → Roomy (length (t .formTable)) (length (t .lineTable)) (length (t .stepTable)) → Sound (requestOf t) → pastZero t ≡ true
+    (t : Lent) → Roomy (length (t .formTable)) (length (t .lineTable)) (length (t .stepTable)) → Unrefused (requestOf t) → pastZero t ≡ true
     → lentOf (length (t .formTable)) (length (t .lineTable)) (length (t .stepTable)) (requestOf t) ≡ t
 unfolding lentOf requestOf pastZero
 lent-back t room g past =
@@ -158,7 +158,7 @@ any-each : {A : Type 0} (xs : List A) → All Any xs
 any-each [] = none-left
 any-each (x ∷ xs) = one-more tt (any-each xs)
 
-pub said : (forms lines steps : ℕ) (q : Request) → Roomy forms lines steps → Sound q → Said forms lines steps q
+pub said : (forms lines steps : ℕ) (q : Request) → Roomy forms lines steps → Unrefused q → Said forms lines steps q
 unfolding lentOf requestOf pastZero
 said lf ll ls q room g =
     let s = sized q g in

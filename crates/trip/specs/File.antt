@@ -22,7 +22,7 @@ use Rattle.trip.specs.Reads.{Shaped, Reads, line-reads}
 use Rattle.trip.specs.Several.{two, Each, seq-reads, done-reads, counted-reads, reads-as}
 
 -- A request without refusal, line by line.
-pub record Sound (q : Request) : Type 0 where
+pub record Unrefused (q : Request) : Type 0 where
   pub principals : principalsRefusal (q .principals) ≡ 0
   pub atoms : atomsRefusal (q .atoms) ≡ 0
   pub formulas : formulasRefusal (length (q .forms)) ≡ 0
@@ -33,11 +33,11 @@ pub record Sound (q : Request) : Type 0 where
   pub step-count : stepsRefusal (length (q .steps)) ≡ 0
   pub steps : Each (λ before r. stepRefusal r ≡ 0) (length (q .steps)) [] (q .steps)
 
-number-shaped : Shaped numberShape (λ n. n < 100000)
+pub number-shaped : Shaped numberShape (λ n. n < 100000)
 number-shaped =
     record { there = number-there; back = number-back; clean = λ n h. numeral-free 10 n (omega arith) }
 
-row-shaped : (ks : List Kind) → Neat ks → Shaped (rowShape ks) (Sayable ks)
+pub row-shaped : (ks : List Kind) → Neat ks → Shaped (rowShape ks) (Sayable ks)
 row-shaped ks n =
     record { there = λ r g. row-there ks r n g; back = λ s r e. row-back ks s r n e; clean = λ r g. row-clean ks r n (g .known) }
 
@@ -91,7 +91,7 @@ goal-reads forms i h = number-reads "goal=" (goalRefusal forms) i refl (λ f e. 
 most : (least high n : ℕ) → countRefusal least high n ≡ 0 → n ≤ high
 most least high n e = count-passed least high n e .high
 
-pub request-reads : Reads requestLines requestText Sound
+pub request-reads : Reads requestLines requestText Unrefused
 unfolding requestLines requestText joined free
 request-reads =
     reads-as

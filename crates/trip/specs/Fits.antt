@@ -19,7 +19,7 @@ use Rattle.trip.specs.Words.{everyKind, every-at}
 use Rattle.trip.specs.RowRanges.{row-passed}
 use Rattle.trip.specs.Small.{count-passed}
 use Rattle.trip.specs.Several.{Each, none-left, one-more}
-use Rattle.trip.specs.File.{Sound}
+use Rattle.trip.specs.File.{Unrefused}
 
 fits-choice : (m : ℕ) (t : Bool) (x y : List ℕ) → length x ≤ m → length y ≤ m → length (cond t x y) ≤ m
 fits-choice m true x y p q = p
@@ -113,7 +113,7 @@ unfolding stepRefusal
 step-fits before r e = line-fits stepLine r 9 (row-fits stepKinds 9 r steps-short (row-passed 0 0 0 stepKinds r e .known))
 
 -- The ten kinds of lines, each with the largest numbers.
-pub text-fits : (q : Request) → Sound q → length (requestText q) ≤ 65536
+pub text-fits : (q : Request) → Unrefused q → length (requestText q) ≤ 65536
 unfolding requestText joined
 text-fits q g =
     let f = count-passed 1 1024 (length (q .forms)) (g .formulas) in

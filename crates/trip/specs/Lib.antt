@@ -14,4 +14,5 @@ pub mod Packing
 pub mod Fits
 pub mod Entries
 pub mod Trip
+pub mod Refused
 pub mod Statements

@@ -8,9 +8,9 @@ use Rattle.scope.specs.Line.{Read, ok, bad}
 use Rattle.scope.specs.Text.{requestText}
 use Rattle.scope.specs.Reader.{read, requestLines, ended, readRequest}
 use Rattle.trip.specs.Tests.{never}
-use Rattle.trip.specs.File.{Sound, request-reads}
+use Rattle.trip.specs.File.{Unrefused, request-reads}
 
-pub text-reads : (q : Request) → Sound q → readRequest (requestText q) ≡ read q
+pub text-reads : (q : Request) → Unrefused q → readRequest (requestText q) ≡ read q
 unfolding readRequest
 text-reads q g =
     ap (λ s. ended (requestLines s)) (sym (append-nil (requestText q))) ∙ ap ended (request-reads .there q [] g)
@@ -21,9 +21,9 @@ whole (ok p []) q e = cc
 whole (ok p (b ∷ rest)) q e = never cc
 whole (bad k i) q e = never cc
 
-pub read-sound : (s : List ℕ) (q : Request) → readRequest s ≡ read q → Sound q
+pub read-unrefused : (s : List ℕ) (q : Request) → readRequest s ≡ read q → Unrefused q
 unfolding readRequest
-read-sound s q e = request-reads .good s q [] (whole (requestLines s) q e)
+read-unrefused s q e = request-reads .good s q [] (whole (requestLines s) q e)
 
 pub read-text : (s : List ℕ) (q : Request) → readRequest s ≡ read q → s ≡ requestText q
 unfolding readRequest

@@ -1,27 +1,31 @@
 -- The round trip. Over requests: a request without refusal has one text, which reads back. Over calls: what the writer wrote reads back
--- to the very counts, goal and tables, and what the reader read is written again as the very text. All of it for all inputs.
-use Prim.Native.Nat.{ℕ, _≤_}
+-- to the very counts, goal and tables, and what the reader read is written again as the very text. Last, tables are refused at the line
+-- where their text is. All of it for all inputs.
+use Prim.Native.Nat.{ℕ, suc, _≤_}
 use mathlib.Core.Path.{_≡_, sym, _∙_}
 use mathlib.Core.List.{List}
 use lib.ListN.{length}
+use Rattle.scope.specs.Answer.{answer}
 use Rattle.scope.specs.Request.{Request}
 use Rattle.scope.specs.Text.{requestText}
 use Rattle.scope.specs.Limits.{mostBytes}
-use Rattle.scope.specs.Reader.{read, readRequest}
+use Rattle.scope.specs.Reader.{read, refused, readRequest}
 use Rattle.scope.specs.Tables.{Lent, requestOf}
-use Rattle.scope.specs.Calls.{reading, lentAfter, written, writing}
-use Rattle.trip.specs.File.{Sound}
-use Rattle.trip.specs.Requests.{text-reads, read-sound, read-text}
+use Rattle.scope.specs.Checked.{firstMet, lineAnswers, checked}
+use Rattle.scope.specs.Calls.{reading, lentAfter, written, unwritten, writing}
+use Rattle.trip.specs.File.{Unrefused}
+use Rattle.trip.specs.Requests.{text-reads, read-unrefused, read-text}
 use Rattle.trip.specs.Fits.{text-fits}
-use Rattle.trip.specs.Trip.{readFor, leftFor, write-then-read, read-then-write}
+use Rattle.trip.specs.Trip.{Fine, checked-fine, fine-checked, write-again, readFor, leftFor, write-then-read, read-then-write}
+use Rattle.trip.specs.Refused.{Sayable, lines-refused, text-checked, checked-text, text-unwritten, unwritten-text}
 
--- A request without refusal (`Sound`: each line's own refusal is 0) reads back from its text.
-pub reads-back : (q : Request) → Sound q → readRequest (requestText q) ≡ read q
+-- A request without refusal (`Unrefused`: each line's own refusal is 0) reads back from its text.
+pub reads-back : (q : Request) → Unrefused q → readRequest (requestText q) ≡ read q
 reads-back = text-reads
 
 -- A text that reads well gives a request without refusal, and is its text.
-pub is-sound : (s : List ℕ) (q : Request) → readRequest s ≡ read q → Sound q
-is-sound = read-sound
+pub is-unrefused : (s : List ℕ) (q : Request) → readRequest s ≡ read q → Unrefused q
+is-unrefused = read-unrefused
 
 pub is-the-text : (s : List ℕ) (q : Request) → readRequest s ≡ read q → s ≡ requestText q
 is-the-text = read-text
@@ -31,8 +35,17 @@ pub one-text : (s t : List ℕ) (q : Request) → readRequest s ≡ read q → r
 one-text s t q d e = read-text s q d ∙ sym (read-text t q e)
 
 -- The largest text that is written is no file over 65,536 bytes: refusal 1 is never met on it.
-pub fits-a-file : (q : Request) → Sound q → length (requestText q) ≤ mostBytes
+pub fits-a-file : (q : Request) → Unrefused q → length (requestText q) ≤ mostBytes
 fits-a-file = text-fits
+
+-- The checks pass on exactly the tables that are `Fine`: room for the largest counts, a request without refusal, zeros past the counts.
+pub passes-exactly : (t : Lent) → (checked t ≡ answer 0 0 → Fine t) × (Fine t → checked t ≡ answer 0 0)
+passes-exactly t = (checked-fine t, fine-checked t)
+
+-- So the writer writes whenever the tables are `Fine` and the output has room for the text.
+pub writes :
+    (t : Lent) (len : ℕ) → Fine t → length (requestText (requestOf t)) ≤ len → writing t len ≡ written (requestText (requestOf t))
+writes = write-again
 
 -- What was written reads back, in tables lent as long as those of t (`readFor`), to the request of t; and reading leaves counts, goal and
 -- tables, over their whole length, as they stand in t (`leftFor`).
@@ -45,3 +58,25 @@ pub trip-read :
     (forms lines steps len : ℕ) (s : List ℕ) (q : Request) → reading forms lines steps s ≡ read q → length s ≤ len
     → writing (lentAfter forms lines steps (read q)) len ≡ written s
 trip-read = read-then-write
+
+-- '3, 4 or 5 at the line where the text would have it': of tables with room whose lines can all be said in shape (`Sayable`), the first
+-- refusal that the lines meet is the one that reading their text gives.
+pub refused-alike :
+    (t : Lent) (k i : ℕ) → Sayable t → firstMet (lineAnswers (requestOf t)) ≡ answer (suc k) i
+    → readRequest (requestText (requestOf t)) ≡ refused (suc k) i
+refused-alike t k i g e = lines-refused (requestOf t) k i (g .in-shape) e
+
+-- So the checks refuse such tables at a line exactly if the reader refuses their text there, with the same number. Place 0 is left to what
+-- no text has: a nonzero entry past the counts.
+pub checks-alike :
+    (t : Lent) (k i : ℕ) → Sayable t
+    → (checked t ≡ answer (suc k) (suc i) → readRequest (requestText (requestOf t)) ≡ refused (suc k) (suc i)) ×
+    (readRequest (requestText (requestOf t)) ≡ refused k i → checked t ≡ answer k i)
+checks-alike t k i g = (checked-text t k i g, text-checked t k i g)
+
+-- And so does the writer, whatever the length of the output.
+pub writes-alike :
+    (t : Lent) (len k i : ℕ) → Sayable t
+    → (writing t len ≡ unwritten k (suc i) → readRequest (requestText (requestOf t)) ≡ refused k (suc i)) ×
+    (readRequest (requestText (requestOf t)) ≡ refused k i → writing t len ≡ unwritten k i)
+writes-alike t len k i g = (unwritten-text t len k i g, text-unwritten t len k i g)

@@ -16,20 +16,20 @@ use Rattle.scope.specs.Tables.{Lent, hasRoom, requestOf, lentOf}
 use Rattle.scope.specs.Checked.{firstMet, lineAnswers, pastZero, checked}
 use Rattle.scope.specs.Calls.{reading, lentAfter, written, unwritten, writtenIf, writing}
 use Rattle.trip.specs.Tests.{never, demand-met, demand-passes}
-use Rattle.trip.specs.File.{Sound}
-use Rattle.trip.specs.Requests.{text-reads, read-sound, read-text}
-use Rattle.trip.specs.Checks.{nothing-met, met-first, met-apart, met-nothing, passes, passes-all, lines-sound, sound-lines}
+use Rattle.trip.specs.File.{Unrefused}
+use Rattle.trip.specs.Requests.{text-reads, read-unrefused, read-text}
+use Rattle.trip.specs.Checks.{nothing-met, met-first, met-apart, met-nothing, passes, passes-all, lines-unrefused, unrefused-lines}
 use Rattle.trip.specs.Fits.{text-fits}
 use Rattle.trip.specs.Entries.{has-room, lent-back, said}
 
 -- Tables that pass every check.
 pub record Fine (t : Lent) : Type 0 where
   pub room : hasRoom (length (t .formTable)) (length (t .lineTable)) (length (t .stepTable)) ≡ true
-  pub sound : Sound (requestOf t)
+  pub unrefused : Unrefused (requestOf t)
   pub past : pastZero t ≡ true
 
 -- The checks in their order.
-check-law :
+pub check-law :
     (t : Lent)
     → checked t
     ≡ firstMet
@@ -46,13 +46,13 @@ checked-fine t e =
     let a = met-first _ _ _ (sym (check-law t) ∙ e) in
     let b = met-apart (lineAnswers (requestOf t)) _ (a .two) in
     let c = met-first _ _ _ (b .two) in
-    record { room = demand-met _ 12 0 (a .one) .0; sound = lines-sound (requestOf t) (b .one); past = demand-met _ 2 0 (c .one) .0 }
+    record { room = demand-met _ 12 0 (a .one) .0; unrefused = lines-unrefused (requestOf t) (b .one); past = demand-met _ 2 0 (c .one) .0 }
 
 pub fine-checked : (t : Lent) → Fine t → checked t ≡ answer 0 0
 fine-checked t g =
     check-law t ∙
     passes _ _ _ (demand-passes _ 13 0 (g .room)) ∙
-    passes-all _ _ (sound-lines (requestOf t) (g .sound)) ∙
+    passes-all _ _ (unrefused-lines (requestOf t) (g .unrefused)) ∙
     passes _ _ _ (demand-passes _ 3 0 (g .past)) ∙
     nothing-met
 
@@ -115,11 +115,11 @@ pub write-then-read :
 write-then-read t len s e =
     let w = wrote t len s e in
     let g = w .fine in
-    let h = text-fits (requestOf t) (g .sound) in
+    let h = text-fits (requestOf t) (g .unrefused) in
     let r = read-law (length (t .formTable)) (length (t .lineTable)) (length (t .stepTable)) (requestText (requestOf t)) (g .room) h in
-    let b = text-reads (requestOf t) (g .sound) in
+    let b = text-reads (requestOf t) (g .unrefused) in
     let x : readFor t s ≡ read (requestOf t) = cc (w .text) in
-    let y = lent-back t (has-room _ _ _ (g .room)) (g .sound) (g .past) in
+    let y = lent-back t (has-room _ _ _ (g .room)) (g .unrefused) (g .past) in
     (x, rw x (unfold lentAfter in y))
 
 -- What was read stands in tables that pass every check, and they say the request that was read.
@@ -128,9 +128,9 @@ pub read-fine :
     → Fine (lentOf forms lines steps q) × (requestOf (lentOf forms lines steps q) ≡ q)
 read-fine f l n s q e =
     let g = got f l n s q e in
-    let k = read-sound s q (g .request) in
+    let k = read-unrefused s q (g .request) in
     let d = said f l n q (has-room f l n (g .room)) k in
-    (record { room = rw (d .form-room, d .line-room, d .step-room) (g .room); sound = rw (d .back) k; past = d .past }, d .back)
+    (record { room = rw (d .form-room, d .line-room, d .step-room) (g .room); unrefused = rw (d .back) k; past = d .past }, d .back)
 
 pub read-then-write :
     (forms lines steps len : ℕ) (s : List ℕ) (q : Request) → reading forms lines steps s ≡ read q → length s ≤ len

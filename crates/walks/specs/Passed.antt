@@ -15,7 +15,7 @@ use Rattle.trip.specs.RowRanges as ranges
 use Rattle.trip.specs.RowRanges.{row-passed}
 use Rattle.trip.specs.Small.{count-passed, clause-named, goal-named}
 use Rattle.trip.specs.Several.{Each, each-at}
-use Rattle.trip.specs.File.{Sound}
+use Rattle.trip.specs.File.{Unrefused}
 use Rattle.walks.specs.Unpacked.{rowOf, form-at, line-at}
 
 pub record Passed (t : Lent) : Type 0 where
@@ -32,9 +32,9 @@ row-at k n rs each f d h =
     let front : length (take f rs) ≡ f = length-take-le f rs (omega arith) in
     row-passed k n f formKinds (getD rs f d) (rw front at (each-at each d f h))
 
-pub sound-passed : (t : Lent) → Sound (requestOf t) → Passed t
+pub unrefused-passed : (t : Lent) → Unrefused (requestOf t) → Passed t
 unfolding requestOf
-sound-passed t s =
+unrefused-passed t s =
     let nf = unpack-length formEntry (t .formulas) (t .formTable) in
     let nl = unpack-length lineEntry (t .lines) (t .lineTable) in
     record {

@@ -13,7 +13,7 @@ use Rattle.scope.specs.Judge.{stepsOf, startOf, stepsAnswer}
 use Rattle.trip.specs.Trip.{checked-fine}
 use Rattle.machine.specs.Machine.{begun, ran}
 use Rattle.walks.specs.Unpacked.{line-at, steps-are}
-use Rattle.walks.specs.Passed.{Passed, sound-passed}
+use Rattle.walks.specs.Passed.{Passed, unrefused-passed}
 use Rattle.walks.specs.Readable.{readingOf}
 use Rattle.walks.specs.Related.{Related}
 use Rattle.walks.specs.Begun.{begun-related}
@@ -36,7 +36,7 @@ pub ran-walks : (t : Lent) → checked t ≡ answer 0 0 →
     walkedAnswer (ran (t .formTable) (t .lineTable) (t .stepTable) (t .lines) (t .goal) (t .steps)) ≡ stepsAnswer (requestOf t)
 unfolding ran stepsAnswer
 ran-walks t e =
-    let p = sound-passed t (checked-fine t e .sound) in
+    let p = unrefused-passed t (checked-fine t e .unrefused) in
     ran-from {T = readingOf t p} (t .stepTable) (t .steps) 0 (begun (t .formTable) (t .lineTable) (t .lines) (t .goal))
     (startOf (requestOf t) ∷ []) (begins t p) ∙
     ap (λ (xs : List Step). walk within 0 (startOf (requestOf t) ∷ []) xs) (steps-same t p)

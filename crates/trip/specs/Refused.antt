@@ -1,0 +1,237 @@
+-- Refusals of tables are those of their text. Where every line can be said in shape, the first refusal that the checks meet, line by line,
+-- is the first that reading the text meets, at the same line. One law a reader, as in the round trip.
+use Prim.Native.Nat.{ℕ, zero, suc, _<_}
+use Prim.Native.String.{String}
+use mathlib.Core.Path.{_≡_, refl, sym, ap, _∙_}
+use mathlib.Core.List.{List, [], _∷_, _++_, append-assoc, append-nil}
+use mathlib.Core.Bool.{Bool, true, false, cond}
+use native.Mathlib.Omega.{arith}
+use lib.Dec.{leb}
+use lib.ListN.{length}
+use Rattle.scope.specs.Answer.{Answer, answer}
+use Rattle.scope.specs.Bytes.{bytes, joined}
+use Rattle.scope.specs.Request.{Request}
+use Rattle.scope.specs.Line.{Line, Read, ok, bad, Reader, settled, placed, line, lineText, after, _>>=_, done, many, manyText, counted, countedText}
+use Rattle.scope.specs.Limits.{versionAt, formAt, clausesAt, clauseAt, goalAt, stepsAt, stepAt}
+use Rattle.scope.specs.Kinds.{formKinds, stepKinds}
+use Rattle.scope.specs.Refusals.{demand, countRefusal, versionRefusal, principalsRefusal, atomsRefusal, formulasRefusal, formRefusal, clausesRefusal, clauseRefusal, goalRefusal, stepsRefusal, stepRefusal}
+use Rattle.scope.specs.Text.{numberLine, formulasLine, formLine, clausesLine, clauseLine, stepsLine, stepLine, requestText}
+use Rattle.scope.specs.Reader.{refused, formItem, clauseItem, stepItem, requestLines, ended, readRequest}
+use Rattle.scope.specs.Tables.{Lent, hasRoom, requestOf}
+use Rattle.scope.specs.Checked.{firstMet, eachOf, lineAnswers, pastZero, checked}
+use Rattle.scope.specs.Calls.{written, unwritten, writtenIf, writing}
+use Rattle.trip.specs.Tests.{never, demand-passes}
+use Rattle.trip.specs.Cuts.{free, free-append, cut-there, strip-there}
+use Rattle.trip.specs.Words.{form-kinds-neat, step-kinds-neat}
+use Rattle.trip.specs.Rows as Rows
+use Rattle.trip.specs.Reads.{Shaped}
+use Rattle.trip.specs.Packing.{All, none-left, one-more}
+use Rattle.trip.specs.File.{number-shaped, row-shaped}
+use Rattle.trip.specs.Checks.{passes}
+use Rattle.trip.specs.Trip.{check-law}
+
+-- What a reader gives under the first refusal met: the thing and the rest where none is, else that refusal.
+unfoldable met : {A : Type 0} → Answer → A → List ℕ → Read A
+met (answer zero place) a rest = ok a rest
+met (answer (suc k) place) a rest = bad (suc k) place
+
+-- A reader on the text of a thing, whatever follows, gives what these answers say of it.
+record Meets {A : Type 0} (rd : Reader A) (text : List ℕ) (answers : List Answer) (a : A) : Type 0 where
+  gives : (rest : List ℕ) → rd (text ++ rest) ≡ met (firstMet answers) a rest
+
+line-meets :
+    {A : Type 0} {Fits : A → Type 0} (l : Line A) (refusal : A → ℕ) (i : ℕ) (a : A) → free 10 (l .key) ≡ true → Shaped (l .shape) Fits → Fits a
+    → Meets (line l refusal i) (lineText l a) (answer (refusal a) i ∷ []) a
+unfolding line lineText firstMet met
+line-meets {A} l refusal i a f c g = record { gives = gives }
+  where
+    settles : (k : ℕ) (rest : List ℕ) → placed i (settled k a) rest ≡ met (firstMet (answer k i ∷ [])) a rest
+    settles zero rest = refl
+    settles (suc k) rest = refl
+
+    gives : (rest : List ℕ) → line l refusal i (lineText l a ++ rest) ≡ met (firstMet (answer (refusal a) i ∷ [])) a rest
+    gives rest =
+        let t = l .shape .text a in
+        let k = cut-there 10 (l .key ++ t) rest (free-append 10 (l .key) t f (c .clean a g)) in
+        let b : l .key ++ t ++ (10 ∷ []) ++ rest ≡ l .key ++ t ++ 10 ∷ rest = append-assoc (l .key ++ t) (10 ∷ []) rest in
+        rw (b, k, strip-there (l .key) t, c .there a g) (settles (refusal a) rest)
+
+-- The end: nothing is asked.
+done-meets : {A : Type 0} (a : A) → Meets (done a) [] [] a
+unfolding firstMet met
+done-meets a = record { gives = λ rest. refl }
+
+-- One after the other: a refusal of the first is met before the second is read.
+seq-meets :
+    {A B : Type 0} {m : Reader A} {s t : List ℕ} {xs ys : List Answer} {a : A} {b : B} (next : A → Reader B) → Meets m s xs a
+    → Meets (next a) t ys b → Meets (_>>=_ m next) (s ++ t) (xs ++ ys) b
+unfolding _>>=_ after firstMet met
+seq-meets {A} {B} {m} {s} {t} {xs} {ys} {a} {b} next p q =
+    record { gives = λ rest. rw (append-assoc s t rest, p .gives (t ++ rest)) (goes-on xs rest) }
+  where
+    goes-on : (zs : List Answer) (rest : List ℕ) → after (met (firstMet zs) a (t ++ rest)) next ≡ met (firstMet (zs ++ ys)) b rest
+    goes-on [] rest = q .gives rest
+    goes-on (answer zero p ∷ zs) rest = goes-on zs rest
+    goes-on (answer (suc k) p ∷ zs) rest = refl
+
+-- What is put together from a thing meets what the thing met.
+then-meets :
+    {A B : Type 0} (f : A → B) {m : Reader A} {s : List ℕ} {xs : List Answer} {a : A} → Meets m s xs a
+    → Meets (_>>=_ m (λ x. done (f x))) s xs (f a)
+unfolding _>>=_ after firstMet met
+then-meets {A} {B} f {m} {s} {xs} {a} p = record { gives = λ rest. rw (p .gives rest) (goes-on (firstMet xs) rest) }
+  where
+    goes-on : (x : Answer) (rest : List ℕ) → after (met x a rest) (λ y. done (f y)) ≡ met x (f a) rest
+    goes-on (answer zero p) rest = refl
+    goes-on (answer (suc k) p) rest = refl
+
+-- Several of one kind.
+module _
+    {A : Type 0} (item : List A → Reader A) (text : A → List ℕ) (about : List A → A → Answer) (Fits : A → Type 0)
+    (meets : (before : List A) (x : A) → Fits x → Meets (item before) (text x) (about before x ∷ []) x) where
+  many-meets : {xs : List A} → All Fits xs → (before : List A) → Meets (many item (length xs) before) (manyText text xs) (eachOf about before xs) xs
+  unfolding many manyText eachOf
+  many-meets none-left before = done-meets []
+  many-meets (one-more {x = x} {xs = xs} g e) before =
+      seq-meets _ (meets before x g) (then-meets (λ more. x ∷ more) (many-meets e (before ++ (x ∷ []))))
+
+-- A count and that many things.
+counted-meets :
+    {A : Type 0} (l : Line ℕ) (refusal : ℕ → ℕ) (i : ℕ) (item : List A → Reader A) (it : Line A) (about : List A → A → Answer) (Fits : A → Type 0)
+    (xs : List A) → Meets (line l refusal i) (lineText l (length xs)) (answer (refusal (length xs)) i ∷ []) (length xs)
+    → ((before : List A) (x : A) → Fits x → Meets (item before) (lineText it x) (about before x ∷ []) x) → All Fits xs
+    → Meets (counted l refusal i item) (countedText l it xs) (answer (refusal (length xs)) i ∷ eachOf about [] xs) xs
+unfolding counted countedText
+counted-meets l refusal i item it about Fits xs count meets all = seq-meets _ count (many-meets item (lineText it) about Fits meets all [])
+
+-- A request whose every line can be said in shape: numbers of at most five digits, known kinds, and 0 for each operand that a kind lacks.
+pub record InShape (q : Request) : Type 0 where
+  pub principals : q .principals < 100000
+  pub atoms : q .atoms < 100000
+  pub formulas : length (q .forms) < 100000
+  pub forms : All (Rows.Sayable formKinds) (q .forms)
+  pub clauses : length (q .lines) < 100000
+  pub lines : All (λ f. f < 100000) (q .lines)
+  pub goal : q .goal < 100000
+  pub step-count : length (q .steps) < 100000
+  pub steps : All (Rows.Sayable stepKinds) (q .steps)
+
+number-meets :
+    (key : String) (refusal : ℕ → ℕ) (i n : ℕ) → free 10 (bytes key) ≡ true → n < 100000
+    → Meets (line (numberLine key) refusal i) (lineText (numberLine key) n) (answer (refusal n) i ∷ []) n
+number-meets key refusal i n f h = line-meets (numberLine key) refusal i n f number-shaped h
+
+request-meets : (q : Request) → InShape q → Meets requestLines (requestText q) (answer (versionRefusal 1) versionAt ∷ lineAnswers q) q
+unfolding requestLines requestText joined lineAnswers free
+request-meets q g =
+    let nf = length (q .forms) in
+    let nl = length (q .lines) in
+    seq-meets _ (number-meets "version=" versionRefusal 1 1 refl (omega arith))
+    (seq-meets _ (number-meets "principals=" principalsRefusal 2 (q .principals) refl (g .principals))
+    (seq-meets _ (number-meets "atoms=" atomsRefusal 3 (q .atoms) refl (g .atoms))
+    (seq-meets _
+    (counted-meets formulasLine formulasRefusal 4 (formItem (q .principals) (q .atoms)) formLine
+    (λ before r. answer (formRefusal (q .principals) (q .atoms) before r) (formAt (length before))) (Rows.Sayable formKinds) (q .forms)
+    (number-meets "formulas=" formulasRefusal 4 nf refl (g .formulas))
+    (λ before r h. line-meets formLine (formRefusal (q .principals) (q .atoms) before) (formAt (length before)) r refl (row-shaped formKinds form-kinds-neat) h)
+    (g .forms))
+    (seq-meets _
+    (counted-meets clausesLine clausesRefusal (clausesAt nf) (clauseItem (q .forms)) clauseLine
+    (λ before f. answer (clauseRefusal (q .forms) f) (clauseAt nf (length before))) (λ f. f < 100000) (q .lines)
+    (number-meets "clauses=" clausesRefusal (clausesAt nf) nl refl (g .clauses))
+    (λ before f h. number-meets "clause=" (clauseRefusal (q .forms)) (clauseAt nf (length before)) f refl h)
+    (g .lines))
+    (seq-meets _ (number-meets "goal=" (goalRefusal (q .forms)) (goalAt nf nl) (q .goal) refl (g .goal))
+    (seq-meets _
+    (counted-meets stepsLine stepsRefusal (stepsAt nf nl) (stepItem nf nl) stepLine
+    (λ before r. answer (stepRefusal r) (stepAt nf nl (suc (length before)))) (Rows.Sayable stepKinds) (q .steps)
+    (number-meets "steps=" stepsRefusal (stepsAt nf nl) (length (q .steps)) refl (g .step-count))
+    (λ before r h. line-meets stepLine stepRefusal (stepAt nf nl (suc (length before))) r refl (row-shaped stepKinds step-kinds-neat) h)
+    (g .steps))
+    (done-meets q)))))))
+
+-- Reading the text of such a request gives what the checks of its lines give.
+text-told : (q : Request) → InShape q → readRequest (requestText q) ≡ ended (met (firstMet (lineAnswers q)) q [])
+unfolding readRequest firstMet countRefusal
+text-told q g = ap (λ s. ended (requestLines s)) (sym (append-nil (requestText q))) ∙ ap ended (request-meets q g .gives [])
+
+pub lines-refused :
+    (q : Request) (k i : ℕ) → InShape q → firstMet (lineAnswers q) ≡ answer (suc k) i → readRequest (requestText q) ≡ refused (suc k) i
+unfolding ended met
+lines-refused q k i g e = text-told q g ∙ ap (λ a. ended (met a q [])) e
+
+pub refused-lines :
+    (q : Request) (k i : ℕ) → InShape q → readRequest (requestText q) ≡ refused k i
+    → (j : ℕ) × (k ≡ suc j) × (firstMet (lineAnswers q) ≡ answer (suc j) i)
+unfolding ended met
+refused-lines q k i g e = go (firstMet (lineAnswers q)) refl (sym (text-told q g) ∙ e)
+  where
+    go :
+        (a : Answer) → firstMet (lineAnswers q) ≡ a → ended (met a q []) ≡ refused k i
+        → (j : ℕ) × (k ≡ suc j) × (firstMet (lineAnswers q) ≡ answer (suc j) i)
+    go (answer zero p) d h = never cc
+    go (answer (suc j) p) d h = (j, cc, cc)
+
+-- Tables with room whose request can be said in shape.
+pub record Sayable (t : Lent) : Type 0 where
+  pub room : hasRoom (length (t .formTable)) (length (t .lineTable)) (length (t .stepTable)) ≡ true
+  pub in-shape : InShape (requestOf t)
+
+-- What is met in a list is met in a longer one; and what is met at a line is not met in a last answer at place 0.
+met-longer : (k i : ℕ) (xs ys : List Answer) → firstMet xs ≡ answer (suc k) i → firstMet (xs ++ ys) ≡ answer (suc k) i
+unfolding firstMet
+met-longer k i [] ys e = never cc
+met-longer k i (answer zero p ∷ xs) ys e = met-longer k i xs ys e
+met-longer k i (answer (suc j) p ∷ xs) ys e = e
+
+met-before : (k i d : ℕ) (xs : List Answer) → firstMet (xs ++ (answer d 0 ∷ [])) ≡ answer (suc k) (suc i) → firstMet xs ≡ answer (suc k) (suc i)
+unfolding firstMet
+met-before k i zero [] e = never cc
+met-before k i (suc d) [] e =
+    let z : _≡_ {A = ℕ} 0 (suc i) = cc in
+    absurd (omega arith)
+met-before k i d (answer zero p ∷ xs) e = met-before k i d xs e
+met-before k i d (answer (suc j) p ∷ xs) e = e
+
+-- With room, the lines are asked first.
+room-law : (t : Lent) → Sayable t → checked t ≡ firstMet (lineAnswers (requestOf t) ++ answer (demand (pastZero t) 3 0) 0 ∷ [])
+room-law t g = check-law t ∙ passes _ _ _ (demand-passes _ 13 0 (g .room))
+
+-- What refuses the text refuses the tables, at the same line; and what refuses the tables at a line refuses the text there.
+pub text-checked : (t : Lent) (k i : ℕ) → Sayable t → readRequest (requestText (requestOf t)) ≡ refused k i → checked t ≡ answer k i
+text-checked t k i g e =
+    let m = refused-lines (requestOf t) k i (g .in-shape) e in
+    rw (m .1) (room-law t g ∙ met-longer (m .0) i (lineAnswers (requestOf t)) _ (m .2))
+
+pub checked-text :
+    (t : Lent) (k i : ℕ) → Sayable t → checked t ≡ answer (suc k) (suc i) → readRequest (requestText (requestOf t)) ≡ refused (suc k) (suc i)
+checked-text t k i g e =
+    lines-refused (requestOf t) k (suc i) (g .in-shape) (met-before k i _ (lineAnswers (requestOf t)) (sym (room-law t g) ∙ e))
+
+-- The same of the writer, whatever the output's length: refusal 14 and the refusal past the counts have place 0.
+pub text-unwritten :
+    (t : Lent) (len k i : ℕ) → Sayable t → readRequest (requestText (requestOf t)) ≡ refused k i → writing t len ≡ unwritten k i
+unfolding writing writtenIf
+text-unwritten t len k i g e =
+    let m = refused-lines (requestOf t) k i (g .in-shape) e in
+    rw (text-checked t k i g e, m .1)
+
+pub unwritten-text :
+    (t : Lent) (len k i : ℕ) → Sayable t → writing t len ≡ unwritten k (suc i) → readRequest (requestText (requestOf t)) ≡ refused k (suc i)
+unfolding writing writtenIf
+unwritten-text t len k i g e = go (checked t) refl e
+  where
+    fits : (b : Bool) (s : List ℕ) → cond b (written s) (unwritten 14 0) ≡ unwritten k (suc i) → _≡_ {A = ℕ} 0 1
+    fits true s h = cc
+    fits false s h =
+        let z : _≡_ {A = ℕ} 0 (suc i) = cc in
+        absurd (omega arith)
+
+    go :
+        (a : Answer) → checked t ≡ a → writtenIf a (requestText (requestOf t)) len ≡ unwritten k (suc i)
+        → readRequest (requestText (requestOf t)) ≡ refused k (suc i)
+    go (answer zero p) c h = never (fits (leb (length (requestText (requestOf t))) len) (requestText (requestOf t)) h)
+    go (answer (suc j) p) c h =
+        let x : suc j ≡ k = cc in
+        let y : p ≡ suc i = cc in
+        checked-text t j i g (c ∙ ap (λ n. answer (suc j) n) y) ∙ ap (λ n. refused n (suc i)) x
