@@ -70,7 +70,14 @@ fn to_imp(
     }
 }
 
-fn to_says(rows: &[facts::Row; ROWS], r: Row, u: World, v: World, target: Lab, worlds: u16) -> Judged
+fn to_says(
+    rows: &[facts::Row; ROWS],
+    r: Row,
+    u: World,
+    v: World,
+    target: Lab,
+    worlds: u16,
+) -> Judged
     ensures { λ j. ⌜ j ≡ toSays (now (rows .entry)) r u v target worlds ⌝ }
 {
     if worlds <= v.0 {

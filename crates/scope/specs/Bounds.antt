@@ -3,13 +3,12 @@ use Prim.Native.Nat.{ℕ, zero, suc, _+_, _-_}
 use mathlib.Core.Path.{_≡_, refl}
 use mathlib.Core.List.{List, [], _∷_, _++_, map}
 use lib.ListN.{replicate}
-use Rattle.scope.specs.Answer.{answer}
+use Rattle.scope.specs.Answer.{Answer, answer}
 use Rattle.scope.specs.Request.{Row, Request}
 use Rattle.scope.specs.Bytes.{bytes}
-use Rattle.scope.specs.Text.{requestText}
 use Rattle.scope.specs.Tables.{lentOf}
 use Rattle.scope.specs.Calls.{writing, writtenAnswer}
-use Rattle.scope.specs.Judge.{Printed, prints, gate}
+use Rattle.scope.specs.Judge.{prints, stepsAnswer, gate}
 
 abbrev pub row : ℕ → ℕ → ℕ → Row
 row k l r = record { kind = k; left = l; right = r }
@@ -90,27 +89,27 @@ pushed n =
     (imp′ ∷ pushes n ++ top′ ∷ [])
 
 -- The last four limits, each kept and passed by one; the place is the first step that would pass it.
-abbrev pub both-sides : (ℕ → Request) → ℕ → List Printed
-both-sides q n = gate (requestText (q n)) ∷ gate (requestText (q (suc n))) ∷ []
+abbrev pub both-sides : (ℕ → Request) → ℕ → List Answer
+both-sides q n = stepsAnswer (q n) ∷ stepsAnswer (q (suc n)) ∷ []
 
-pub worlds-hold : both-sides nested 31 ≡ prints 0 0 32 ∷ prints 10 32 33 ∷ []
-unfolding gate requestText nested
+pub worlds-hold : both-sides nested 31 ≡ answer 0 0 ∷ answer 10 32 ∷ []
+unfolding stepsAnswer nested
 worlds-hold = refl
 
-pub waiting-hold : both-sides conjoined 255 ≡ prints 0 0 511 ∷ prints 10 256 513 ∷ []
-unfolding gate requestText conjoined
+pub waiting-hold : both-sides conjoined 255 ≡ answer 0 0 ∷ answer 10 256 ∷ []
+unfolding stepsAnswer conjoined
 waiting-hold = refl
 
-pub met-hold : both-sides implied 255 ≡ prints 0 0 512 ∷ prints 10 257 514 ∷ []
-unfolding gate requestText implied
+pub met-hold : both-sides implied 255 ≡ answer 0 0 ∷ answer 10 257 ∷ []
+unfolding stepsAnswer implied
 met-hold = refl
 
-pub chunks-hold : both-sides parted 15 ≡ prints 0 0 33 ∷ prints 10 17 35 ∷ []
-unfolding gate requestText parted
+pub chunks-hold : both-sides parted 15 ≡ answer 0 0 ∷ answer 10 17 ∷ []
+unfolding stepsAnswer parted
 chunks-hold = refl
 
-pub clauses-hold : both-sides pushed 127 ≡ prints 0 0 257 ∷ prints 10 258 259 ∷ []
-unfolding gate requestText pushed
+pub clauses-hold : both-sides pushed 127 ≡ answer 0 0 ∷ answer 10 258 ∷ []
+unfolding stepsAnswer pushed
 clauses-hold = refl
 
 -- A file of 65,536 bytes, and one of a byte more.
