@@ -7,14 +7,13 @@ use Rattle.scope.specs.Request.{Request}
 use Rattle.scope.specs.Answer as S
 use Rattle.scope.specs.Limits.{mostFormulas, mostPolicyLines, mostSteps}
 use Rattle.scope.specs.Reader.{Outcome, read, refused}
-use Rattle.scope.specs.Tables.{Lent, lentOf}
+use Rattle.scope.specs.Tables.{lentOf}
 use Rattle.scope.specs.Calls.{formTableAfter, lineTableAfter, stepTableAfter, requestIn}
 use Rattle.scope.specs.Judge.{judge, prints, printed, gate}
 use Rattle.scope.specs.Judge as J
+use Rattle.counts.specs.declared.Counts.{Counts}
+use Rattle.counts.specs.declared.Refusal.{Refusal}
 use Rattle.tables.specs.Met.{lentWith}
-use Rattle.tables.specs.declared.Counts as T
-use Rattle.reader.specs.declared.Counts as R
-use Rattle.reader.specs.declared.Refusal.{Refusal}
 use Rattle.reader.specs.declared.Reading.{Reading}
 use Rattle.reader.specs.declared.Reading.the-variants as Reading
 use Rattle.reader.specs.Answers.{countsOf, readingOf}
@@ -31,17 +30,6 @@ unfoldable pub unreadOf : Reading → Printed
 unreadOf (Reading.Read c) = record { answer = 0; place = 0; steps = 0 }
 unreadOf (Reading.Refused r) = record { answer = r .number; place = r .place; steps = 0 }
 
-abbrev pub countsTold : R.Counts → T.Counts
-countsTold c =
-    record {
-      principals = c .principals;
-      atoms = c .atoms;
-      formulas = c .formulas;
-      lines = c .lines;
-      goal = c .goal;
-      steps = c .steps;
-    }
-
 pub unread-prints : (s : List ℕ) (r : Refusal) → readingOf (gateReads s) ≡ Reading.Refused r →
     unreadOf (Reading.Refused r) ≡ printedOf (gate s)
 unfolding readingOf unreadOf printedOf
@@ -56,9 +44,9 @@ printed-answer : (a : S.Answer) (n : ℕ) →
 unfolding printedOf printed answerOf
 printed-answer (S.answer k place) n = refl
 
--- The tables as reading leaves them, with the counts told, say the request that was read.
+-- The tables as reading leaves them, with the counts that it answers, say the request that was read.
 lent-is : (q : Request) →
-    lentWith (countsTold (countsOf q)) (formTableAfter 3072 (read q)) (lineTableAfter 128 (read q)) (stepTableAfter 4096 (read q))
+    lentWith (countsOf q) (formTableAfter 3072 (read q)) (lineTableAfter 128 (read q)) (stepTableAfter 4096 (read q))
     ≡ lentOf (3 * mostFormulas) mostPolicyLines (2 * mostSteps) q
 unfolding formTableAfter lineTableAfter stepTableAfter requestIn lentOf
 lent-is q = refl
@@ -67,28 +55,27 @@ abbrev put : Answer → ℕ → Printed
 put a n = record { answer = a .refusal; place = a .place; steps = n }
 
 -- What the gate puts together from the judge's answer and the count of steps.
-pub read-prints : (s : List ℕ) (c : R.Counts) (told : T.Counts) (forms lines steps : List ℕ) (a : Answer) → readingOf (gateReads s) ≡ Reading.Read c →
+pub read-prints : (s : List ℕ) (c : Counts) (forms lines steps : List ℕ) (a : Answer) → readingOf (gateReads s) ≡ Reading.Read c →
     forms ≡ formTableAfter 3072 (gateReads s) → lines ≡ lineTableAfter 128 (gateReads s) → steps ≡ stepTableAfter 4096 (gateReads s) →
-    told ≡ countsTold c → a ≡ answerOf (judge (lentWith told forms lines steps)) → put a (c .steps) ≡ printedOf (gate s)
+    a ≡ answerOf (judge (lentWith c forms lines steps)) → put a (c .steps) ≡ printedOf (gate s)
 unfolding readingOf
-read-prints s c told forms lines steps a e f l p n j = go (gateReads s) refl e
+read-prints s c forms lines steps a e f l p j = go (gateReads s) refl e
   where
     go : (o : Outcome) → gateReads s ≡ o → readingOf o ≡ Reading.Read c → put a (c .steps) ≡ printedOf (gate s)
     go (refused k place) d h = never cc
     go (read q) d h =
         let k : countsOf q ≡ c = cc in
-        let t : lentWith told forms lines steps ≡ lentOf (3 * mostFormulas) mostPolicyLines (2 * mostSteps) q =
-        ap (λ x. lentWith x forms lines steps) n ∙
-        ap (λ x. lentWith (countsTold x) forms lines steps) (sym k) ∙
-        ap (λ x. lentWith (countsTold (countsOf q)) x lines steps) (f ∙ ap (formTableAfter 3072) d) ∙
-        ap (λ x. lentWith (countsTold (countsOf q)) (formTableAfter 3072 (read q)) x steps) (l ∙ ap (lineTableAfter 128) d) ∙
+        let t : lentWith c forms lines steps ≡ lentOf (3 * mostFormulas) mostPolicyLines (2 * mostSteps) q =
+        ap (λ x. lentWith x forms lines steps) (sym k) ∙
+        ap (λ x. lentWith (countsOf q) x lines steps) (f ∙ ap (formTableAfter 3072) d) ∙
+        ap (λ x. lentWith (countsOf q) (formTableAfter 3072 (read q)) x steps) (l ∙ ap (lineTableAfter 128) d) ∙
         ap
-        (λ x. lentWith (countsTold (countsOf q)) (formTableAfter 3072 (read q)) (lineTableAfter 128 (read q)) x)
+        (λ x. lentWith (countsOf q) (formTableAfter 3072 (read q)) (lineTableAfter 128 (read q)) x)
         (p ∙ ap (stepTableAfter 4096) d) ∙
         lent-is q in
         let b = judge (lentOf (3 * mostFormulas) mostPolicyLines (2 * mostSteps) q) in
         let z : a ≡ answerOf b = j ∙ ap (λ x. answerOf (judge x)) t in
         ap (λ x. put x (c .steps)) z ∙
-        ap (λ (x : R.Counts). put (answerOf b) (x .steps)) (sym k) ∙
+        ap (λ (x : Counts). put (answerOf b) (x .steps)) (sym k) ∙
         sym (printed-answer b (length (q .steps))) ∙
         sym (ap printedOf (gate-judges s q d))

@@ -1,7 +1,7 @@
 // The gate: from the bytes of a file to the three numbers that are printed.
 ghost use mathlib.Core.Path.{_≡_};
 ghost use Rattle.scope.specs.Judge.{gate as gate'};
-ghost use Rattle.gatelib.specs.Printing.{printedOf, unreadOf, countsTold};
+ghost use Rattle.gatelib.specs.Printing.{printedOf, unreadOf};
 use reader::Reading;
 
 // The refusal number, the place, and the steps read (0 if reading is refused).
@@ -28,19 +28,6 @@ fn unread_by(got: Reading) -> Printed
     }
 }
 
-fn counts_told(c: reader::Counts) -> tables::Counts
-    ensures { λ r. ⌜ r ≡ countsTold c ⌝ }
-{
-    tables::Counts {
-        principals: c.principals,
-        atoms: c.atoms,
-        formulas: c.formulas,
-        lines: c.lines,
-        goal: c.goal,
-        steps: c.steps,
-    }
-}
-
 pub fn gate(file: &[u8]) -> Printed
     ensures { λ r. ⌜ r ≡ printedOf (gate' (now (file .entry))) ⌝ }
 {
@@ -51,8 +38,7 @@ pub fn gate(file: &[u8]) -> Printed
     let Reading::Read(counts) = got else {
         return unread_by(got);
     };
-    let told = counts_told(counts);
-    let a = judge::judge(told, &forms, &lines, &steps);
+    let a = judge::judge(counts, &forms, &lines, &steps);
     Printed {
         answer: a.refusal,
         place: a.place,

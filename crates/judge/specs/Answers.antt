@@ -1,5 +1,4 @@
 -- Document 01's number and place in the judge's answer, for each case of what it is made of.
-use Prim.Native.Nat.{ℕ, zero, suc}
 use Rattle.scope.specs.Answer as S
 use Rattle.tables.specs.declared.Checked.{Checked}
 use Rattle.tables.specs.declared.Checked.the-variants as checked

@@ -1,15 +1,13 @@
 -- The judge's answer by its two parts: a refusal of the checks is the answer, and else what the walk answers.
-use Prim.Native.Nat.{ℕ, zero, suc}
+use Prim.Native.Nat.{zero, suc}
 use mathlib.Core.Path.{_≡_, refl, sym, ap, _∙_}
-use native.Mathlib.Omega.{arith}
 use Rattle.scope.specs.Answer as S
 use Rattle.scope.specs.Answer.{answer}
 use Rattle.scope.specs.Tables.{Lent, requestOf}
 use Rattle.scope.specs.Checked.{checked}
 use Rattle.scope.specs.Judge.{stepsAnswer, judge, else}
-use Rattle.tables.specs.declared.Checked.{Checked}
+use Rattle.counts.specs.declared.Refusal.{Refusal}
 use Rattle.tables.specs.declared.Checked.the-variants.{Fine, Refused}
-use Rattle.tables.specs.declared.Refusal.{Refusal}
 use Rattle.tables.specs.Met.{checkedOf}
 use Rattle.machine.specs.declared.Walked.{Walked}
 use Rattle.machine.specs.declared.Walked.the-variants as walked

@@ -1,6 +1,5 @@
 -- What a caller may conclude from the judge's answer: refusal 0 exactly where tables and counts pass and the steps are a derivation within the
 -- limits; and then the goal holds in every finite model, at each world where the policy holds.
-use Prim.Native.Nat.{ℕ}
 use mathlib.Core.Path.{_≡_, refl, sym, ap, _∙_}
 use Rattle.scope.specs.Answer as S
 use Rattle.scope.specs.Answer.{answer}

@@ -3,10 +3,10 @@ ghost use mathlib.Core.Path.{_≡_};
 ghost use Rattle.scope.specs.Judge.{judge as judge'};
 ghost use Rattle.tables.specs.Met.{lentWith};
 ghost use Rattle.judge.specs.Answers.{answerOf, refusalAnswer, walkedTo};
+use counts::Counts;
 use machine::Walked;
 use machine::walking;
 use tables::Checked;
-use tables::Counts;
 
 // A refusal number of document 01, 0 for granted, and its place.
 pub struct Answer {
@@ -29,12 +29,15 @@ fn refused_by(checks: Checked) -> Answer
     }
 }
 
+// The number of an answer that is no refusal.
+const GRANTED: u16 = 0;
+
 fn walked_to(walked: Walked) -> Answer
     ensures { λ r. ⌜ r ≡ walkedTo walked ⌝ }
 {
     match walked {
         Walked::Granted => Answer {
-            refusal: 0,
+            refusal: GRANTED,
             place: 0,
         },
         Walked::Refused(r) => Answer {

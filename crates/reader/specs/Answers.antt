@@ -8,9 +8,9 @@ use Rattle.scope.specs.Line.{Value, val, out, Read, ok, bad}
 use Rattle.scope.specs.Reader.{Outcome, read, refused}
 use Rattle.scope.specs.Answer.{Answer, answer}
 use Rattle.scope.specs.Calls.{outcomeAnswer, noRequest, requestIn}
+use Rattle.counts.specs.declared.Counts.{Counts}
+use Rattle.counts.specs.declared.Refusal.{Refusal}
 use Rattle.reader.specs.Sections.{Counted, Formulas, PolicyRead}
-use Rattle.reader.specs.declared.Counts.{Counts}
-use Rattle.reader.specs.declared.Refusal.{Refusal}
 use Rattle.reader.specs.declared.Reading.{Reading}
 use Rattle.reader.specs.declared.Reading.the-variants as Reading
 use Rattle.reader.specs.declared.NumberLine.{NumberLine}

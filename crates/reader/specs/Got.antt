@@ -7,10 +7,10 @@ use lib.ListN.{length, take, drop}
 use Rattle.scope.specs.Request.{Row}
 use Rattle.scope.specs.Line.{Read, ok, bad, Reader}
 use Rattle.lines.specs.Parts.{tail-part}
+use Rattle.counts.specs.declared.Refusal.{Refusal}
 use Rattle.reader.specs.Sections.{Counted, Formulas, PolicyRead}
 use Rattle.reader.specs.Answers.{sectionOf, headOf, formulasOf, policyOf, stepsOf}
 use Rattle.reader.specs.Many.{Ends, tail-drop}
-use Rattle.reader.specs.declared.Refusal.{Refusal}
 use Rattle.reader.specs.declared.Section.the-variants as Section
 use Rattle.reader.specs.declared.Head.the-variants as Head
 use Rattle.reader.specs.declared.Policy.the-variants as Policy

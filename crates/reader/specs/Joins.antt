@@ -20,6 +20,7 @@ use Rattle.classes.specs.Class.{goalIn, policyIn, classTable}
 use Rattle.classes.specs.Rows.{unpack-length}
 use Rattle.classes.specs.Laws.{goal-at, policy-at}
 use Rattle.lines.specs.Parts.{valueOf, restOf}
+use Rattle.counts.specs.declared.Refusal.{Refusal}
 use Rattle.reader.specs.Sections.{Counted, headPart, formulasPart, policyPart, stepsPart, classRefusal, classedItem}
 use Rattle.reader.specs.Answers.{numberLineOf, sectionOf, headOf}
 use Rattle.reader.specs.Lines.{number-ok, number-bad}
@@ -27,7 +28,6 @@ use Rattle.reader.specs.Many.{Ends, line-ends, many-ends, many-length, t
 use Rattle.reader.specs.Turns.{rest-short}
 use Rattle.reader.specs.Whole.{head-ends}
 use Rattle.reader.specs.Got.{partFrom, part-is, section-got, section-lost, head-got, head-lost}
-use Rattle.reader.specs.declared.Refusal.{Refusal}
 use Rattle.reader.specs.declared.NumberLine.the-variants as NumberLine
 use Rattle.reader.specs.declared.Section.the-variants as Section
 use Rattle.reader.specs.declared.Head.the-variants as Head

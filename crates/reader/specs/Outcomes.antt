@@ -14,14 +14,14 @@ use Rattle.scope.specs.Limits.{endAt}
 use Rattle.scope.specs.Reader.{Outcome, read, refused, ended, readRequest}
 use Rattle.scope.specs.Tables.{formEntry, lineEntry, stepEntry, table, unpack, hasRoom}
 use Rattle.scope.specs.Calls.{reading, requestIn, formTableAfter, lineTableAfter, stepTableAfter}
+use Rattle.counts.specs.declared.Counts.{Counts}
+use Rattle.counts.specs.declared.Refusal.{Refusal}
 use Rattle.reader.specs.Sections.{Formulas, PolicyRead, formulasPart, policyPart, stepsPart}
 use Rattle.reader.specs.Answers.{readingOf, formulasOf, policyOf, stepsOf}
 use Rattle.reader.specs.Many.{tail-length}
 use Rattle.reader.specs.Stored.{table-none, unpack-table}
 use Rattle.reader.specs.Whole.{requestOf, sections, request-sections, formulas-ends, policy-ends, steps-ends}
 use Rattle.reader.specs.Got.{partFrom, part-is, Formulas-got, formulas-got, formulas-lost, Policy-got, policy-got, policy-lost, Steps-got, steps-got, steps-lost}
-use Rattle.reader.specs.declared.Counts.{Counts}
-use Rattle.reader.specs.declared.Refusal.{Refusal}
 use Rattle.reader.specs.declared.Reading.the-variants as Reading
 use Rattle.reader.specs.declared.Head.the-variants as Head
 use Rattle.reader.specs.declared.Policy.the-variants as Policy

@@ -7,27 +7,13 @@ ghost use Rattle.scope.specs.Reader.{Outcome, read, readRequest};
 ghost use Rattle.scope.specs.Tables.{table, formEntry, lineEntry, stepEntry, hasRoom};
 ghost use Rattle.scope.specs.Calls.{reading, formTableAfter, lineTableAfter, stepTableAfter};
 ghost use Rattle.reader.specs.Answers.{refusalIs, numberRefusal, rowRefused, sectionRefused, headRefused, policyRefused, stepsRefused, readingOf};
+use counts::Counts;
+use counts::Refusal;
 
 mod first_lines;
 mod form_lines;
 mod policy_lines;
 mod step_lines;
-
-// The counts and the goal of a request.
-pub struct Counts {
-    pub principals: u16,
-    pub atoms: u16,
-    pub formulas: u16,
-    pub lines: u16,
-    pub goal: u16,
-    pub steps: u16,
-}
-
-// The number of a refusal, and its place.
-pub struct Refusal {
-    pub number: u16,
-    pub place: u32,
-}
 
 pub enum Reading {
     Read(Counts),

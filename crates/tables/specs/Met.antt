@@ -4,7 +4,7 @@ use mathlib.Core.List.{List}
 use Rattle.scope.specs.Answer.{Answer, answer}
 use Rattle.scope.specs.Checked.{firstMet}
 use Rattle.scope.specs.Tables.{Lent}
-use Rattle.tables.specs.declared.Counts.{Counts}
+use Rattle.counts.specs.declared.Counts.{Counts}
 use Rattle.tables.specs.declared.Checked.{Checked}
 use Rattle.tables.specs.declared.Checked.the-variants.{Fine, Refused}
 

@@ -8,7 +8,7 @@ use lib.ListN.{length, getD, take, drop}
 use lib.Seq.{take-suc, split-at, take-length}
 use Rattle.scope.specs.Answer.{Answer, answer}
 use Rattle.scope.specs.Checked.{firstMet}
-use Rattle.tables.specs.declared.Refusal.{Refusal}
+use Rattle.counts.specs.declared.Refusal.{Refusal}
 use Rattle.tables.specs.declared.Checked.{Checked}
 use Rattle.tables.specs.declared.Checked.the-variants.{Fine, Refused}
 use Rattle.tables.specs.Met.{answerOf, checkedOf, met}

@@ -17,9 +17,9 @@ use Rattle.scope.specs.Tables.{Lent, hasRoom, unpack, formEntry, lineEntry, ste
 use Rattle.classes.specs.Class.{goalIn, policyIn, classTable}
 use Rattle.classes.specs.Rows.{unpack-length}
 use Rattle.classes.specs.Laws.{goal-at, policy-at}
+use Rattle.counts.specs.declared.Refusal.{Refusal}
 use Rattle.tables.specs.Met.{answerOf, checkedOf, met}
 use Rattle.tables.specs.MetLaws.{first-answer, met-stop, met-go, met-front, met-back, met-one, fine-none}
-use Rattle.tables.specs.declared.Refusal.{Refusal}
 use Rattle.tables.specs.declared.Checked.{Checked}
 use Rattle.tables.specs.declared.Checked.the-variants.{Fine, Refused}
 use Rattle.tables.specs.Answers.{roomAnswers, countAnswers, formAnswers, classRefusal, lineAnswers, goalAnswers, stepAnswers}

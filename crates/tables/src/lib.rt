@@ -11,23 +11,10 @@ ghost use Rattle.tables.specs.Met.{checkedOf, met, lentWith};
 ghost use Rattle.tables.specs.Answers.{countAnswers, formAnswer, formAnswers, lineAnswers, stepAnswers};
 ghost use Rattle.tables.specs.Refusals.{row};
 ghost use Rattle.tables.specs.Whole.{formPart, linePart, stepPart};
+use counts::Counts;
+use counts::Refusal;
 
 mod rows;
-
-// The counts and the goal of a request whose tables are lent.
-pub struct Counts {
-    pub principals: u16,
-    pub atoms: u16,
-    pub formulas: u16,
-    pub lines: u16,
-    pub goal: u16,
-    pub steps: u16,
-}
-
-pub struct Refusal {
-    pub number: u16,
-    pub place: u32,
-}
 
 pub enum Checked {
     Fine,

@@ -11,9 +11,9 @@ use Rattle.scope.specs.Text.{requestText}
 use Rattle.scope.specs.Tables.{Lent, requestOf, padded}
 use Rattle.scope.specs.Checked.{checked}
 use Rattle.scope.specs.Calls.{Written, written, unwritten, writtenIf, writing, writtenAnswer, textIn, outputAfter}
+use Rattle.counts.specs.declared.Refusal.{Refusal}
 use Rattle.tables.specs.declared.Checked.{Checked}
 use Rattle.tables.specs.declared.Checked.the-variants.{Fine, Refused}
-use Rattle.tables.specs.declared.Refusal.{Refusal}
 use Rattle.tables.specs.Met.{checkedOf}
 use Rattle.writer.specs.declared.Writing.{Writing}
 

@@ -1,7 +1,7 @@
 // The writer: the text of lent tables, or the refusal of what no text says.
+use counts::Counts;
 use sections::put_request;
 use tables::Checked;
-use tables::Counts;
 
 mod digits;
 mod lines;

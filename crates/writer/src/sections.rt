@@ -2,7 +2,7 @@
 use crate::lines::put_count;
 use crate::lines::put_form;
 use crate::lines::put_step;
-use tables::Counts;
+use counts::Counts;
 ghost use Prim.Native.Nat.{_<_, _+_, _*_};
 ghost use Rattle.scope.specs.Line.{lineText, manyText};
 ghost use Rattle.scope.specs.Text.{formLine, clauseLine, stepLine, requestText};

@@ -33,9 +33,6 @@ returns c =
     let met = c .before .before .before .before .before .before .read-request .ensures .0 in
     c .unread-by .ensures ∙ ap unreadOf told ∙ unread-prints _ _ (sym met ∙ told)
 
-counts-told-requires : tie.Need-counts-told-requires
-counts-told-requires c κs = search needs
-
 slice-aggregate-judge : tie.Need-slice-aggregate-judge
 slice-aggregate-judge c = search needs
 
@@ -50,10 +47,9 @@ judge-requires c κs = search needs
 
 returns-2 : tie.Need-returns-2
 returns-2 c =
-    let read = c .before .before .before .before .before .before .before .before .before .before .before .read-request .ensures in
-    let told = c .before .before .before .before .before .before .got .given .1 in
-    let counts = c .before .before .before .before .counts-told .ensures in
-    read-prints _ _ _ _ _ _ _ (sym (read .0) ∙ told) (read .1 .0) (read .1 .1 .0) (read .1 .1 .1) counts (c .judge .ensures)
+    let read = c .before .before .before .before .before .before .before .before .before .before .read-request .ensures in
+    let told = c .before .before .before .before .before .got .given .1 in
+    read-prints _ _ _ _ _ _ (sym (read .0) ∙ told) (read .1 .0) (read .1 .1 .0) (read .1 .1 .1) (c .judge .ensures)
 
 pub gate-spec : {M : Type 1} → statement M
 gate-spec =
@@ -67,7 +63,6 @@ gate-spec =
     enum-told
     unread-by-requires
     returns
-    counts-told-requires
     slice-aggregate-judge
     slice-aggregate-judge-2
     slice-aggregate-judge-3
