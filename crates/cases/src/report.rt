@@ -27,9 +27,13 @@ pub(crate) fn trouble(name: &[u8], why: &[u8]) {
     io::write_all(STDOUT_FILENO, b"\n");
 }
 
-pub(crate) fn totals(cases: u64, differ: u64) {
+pub(crate) fn totals(cases: u64, differ: u64, written: u64, changed: u64) {
     io::print_decimal(STDOUT_FILENO, cases);
     io::write_all(STDOUT_FILENO, b" cases, ");
     io::print_decimal(STDOUT_FILENO, differ);
+    io::write_all(STDOUT_FILENO, b" differ\n");
+    io::print_decimal(STDOUT_FILENO, written);
+    io::write_all(STDOUT_FILENO, b" written back, ");
+    io::print_decimal(STDOUT_FILENO, changed);
     io::write_all(STDOUT_FILENO, b" differ\n");
 }

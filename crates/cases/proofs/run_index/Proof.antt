@@ -1,17 +1,16 @@
--- Each turn goes past a line and the LF that ends it, so the loop ends, and there are no more cases than bytes gone past and no more differences than cases: neither count wraps.
+-- Each turn goes past a line and the LF that ends it, so the loop ends, and each count goes up by one at the most: none is more than the bytes gone past, and none wraps.
 -- Assumes nothing.
 use Prim.Native.Nat.{_≤_, _-_}
-use mathlib.Core.Logic.{⊎-elim}
 use lib.ListN.{length}
 use borrow.Author.Needs.{needs}
 use Rattle.cases.proofs.run_index.Statement.{statement}
 use Rattle.cases.proofs.run_index.Tie as tie
 
 abbrev Inv-loop : tie.InvT-loop
-Inv-loop text cases₀ differ₀ at₀ t6 cases differ at = (at ≤ length text) × (cases ≤ at) × (differ ≤ cases)
+Inv-loop text cases₀ differ₀ written₀ changed₀ at₀ t9 cases differ written changed at = (at ≤ length text) × (cases ≤ at) × (differ ≤ at) × (written ≤ at) × (changed ≤ at)
 
 abbrev μ-loop : tie.MeasureT-loop
-μ-loop text cases₀ differ₀ at₀ t6 cases differ at = length text - at
+μ-loop text cases₀ differ₀ written₀ changed₀ at₀ t9 cases differ written changed at = length text - at
 
 loop-holds : tie.Need-loop-holds Inv-loop μ-loop
 loop-holds c = search needs
@@ -55,8 +54,14 @@ part-run-line-end c = search needs
 run-line-requires : tie.Need-run-line-requires Inv-loop μ-loop
 run-line-requires c κs = search needs
 
-add-differ-2 : tie.Need-add-differ-2 Inv-loop μ-loop
-add-differ-2 c = search needs
+counted-requires : tie.Need-counted-requires Inv-loop μ-loop
+counted-requires c κs = search needs
+
+counted-requires-2 : tie.Need-counted-requires-2 Inv-loop μ-loop
+counted-requires-2 c κs = search needs
+
+counted-requires-3 : tie.Need-counted-requires-3 Inv-loop μ-loop
+counted-requires-3 c κs = search needs
 
 add-at : tie.Need-add-at Inv-loop μ-loop
 add-at c = search needs
@@ -65,7 +70,7 @@ loop-less : tie.Need-loop-less Inv-loop μ-loop
 loop-less c = search needs
 
 loop-again : tie.Need-loop-again Inv-loop μ-loop
-loop-again c = ⊎-elim (λ w. search needs) (λ w. search needs) (c .if2 .came)
+loop-again c = search needs
 
 returns-2 : tie.Need-returns-2 Inv-loop μ-loop
 returns-2 c = search needs
@@ -90,7 +95,9 @@ run-index-spec =
     part-run-line-start
     part-run-line-end
     run-line-requires
-    add-differ-2
+    counted-requires
+    counted-requires-2
+    counted-requires-3
     add-at
     loop-less
     loop-again
