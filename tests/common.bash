@@ -26,3 +26,24 @@ build_program() { # NAME
         program=("$emulator" "${program[@]}")
     fi
 }
+
+# Is the processor one that the static library is for? Says why not.
+links_library() {
+    [[ $(uname -m) == x86_64 ]] || { echo "the static library links into x86-64 programs only: $1 is left out here"; return 1; }
+}
+
+# Sees to it that target/staticlib/libperaduksi.a is there and no older than the crates.
+build_library() {
+    local built=$root/target/staticlib/libperaduksi.a
+    if [[ ! -e $built || -n $(find "$root/crates" "$root/crates.txt" -newer "$built" -print -quit) ]]; then
+        echo "proving and building the library, some minutes from nothing .." >&2
+        mkdir -p "$root/target"
+        (cd "$root" && rt staticlib peraduksi >target/library.log 2>&1) || { cat "$root/target/library.log" >&2; return 1; }
+    fi
+}
+
+# Builds the programs of compare/, which link the library.
+build_compare() {
+    build_library
+    cargo build --release --quiet --manifest-path "$root/compare/Cargo.toml" --target-dir "$root/compare/target"
+}

@@ -1,6 +1,7 @@
 // What reader, checks, writer and judge share. There is no function here.
 
-// The counts and the goal of a request.
+// The counts and the goal of a request, laid out for programs in other languages too.
+#[repr(C)]
 pub struct Counts {
     pub principals: u16,
     pub atoms: u16,

@@ -5,6 +5,7 @@ ghost use Rattle.gatelib.specs.Printing.{printedOf, unreadOf};
 use reader::Reading;
 
 // The refusal number, the place, and the steps read (0 if reading is refused).
+#[repr(C)]
 pub struct Printed {
     pub answer: u16,
     pub place: u32,

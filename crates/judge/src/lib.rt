@@ -9,6 +9,7 @@ use machine::walking;
 use tables::Checked;
 
 // A refusal number of document 01, 0 for granted, and its place.
+#[repr(C)]
 pub struct Answer {
     pub refusal: u16,
     pub place: u32,

@@ -14,6 +14,7 @@ ghost use Rattle.tables.specs.Met.{lentWith};
 ghost use Rattle.writer.specs.Writing.{writingOf, refusedAs};
 
 // The refusal, 0 where there is none, its place, and the text's length, 0 if refused.
+#[repr(C)]
 pub struct Writing {
     pub refusal: u16,
     pub place: u32,
