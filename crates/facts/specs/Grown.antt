@@ -6,8 +6,9 @@ use mathlib.Core.List.{List, _∷_}
 use native.Mathlib.Omega.{arith}
 use lib.ListN.{getD}
 use Rattle.scope.specs.Facts.{Fact, le, by, sf, Closed, given, rule1, rule2, rule3, rule7, rule8, Among, here, closed}
-use Rattle.facts.specs.Rows.{worldsMax, leAt, upAt, bitOf, told, sfRows, seenRow, grownLe, grownBy}
-use Rattle.facts.specs.Bits.{told-none, told-when}
+use Rattle.facts.specs.Rows.{worldsMax, principalsMax, leAt, upAt, byAt, bitOf, told, sfRows, speaksIn, leadRow, unseenRow, seenRow, newWorld, grownLe, grownBy}
+use Rattle.facts.specs.Fill.{fill}
+use Rattle.facts.specs.Bits.{told-none, told-when, when-told}
 use Rattle.facts.specs.Kept.{Way, stop, up-le, up-by, Kept, proper, saved-told, Agree}
 use Rattle.facts.specs.NewRows.{new-rows, new-agree}
 use Rattle.facts.specs.Closing.{way-sf, way-by, way-more, less, sees}
@@ -19,7 +20,7 @@ pub kept-le : {n k u : ℕ} {fs : List Fact} {r : List ℕ} →
 unfolding grownLe told
 kept-le {n} {k} {u} {fs} {r} K inside small =
     kept-new {Less = λ x. Closed n k (Among fs) (le x u)} {Sees = λ a x. ⊥} K inside small
-    (new-rows r u n (getD r (leAt u) 0) (λ c. 0) (K .size) small)
+    (new-rows r u n (getD r (leAt u) 0) (leadRow r u) (unseenRow r u) (K .size) small)
     (record {
       leads = record {
         less-way = λ x p. up-le p (stop inside);
@@ -34,10 +35,12 @@ kept-le {n} {k} {u} {fs} {r} K inside small =
       given-way = up-le edge (stop last);
       less-closed = λ x p. rule8 (closed-more (le x u) p) edge;
       sees-closed = λ a x z. absurd z;
-      less-right = λ x p. K .right (le x u) inside p;
       less-whole = λ x c. K .whole (le x u) c;
-      sees-right = λ a x h p. told-none x p;
+      ways-whole = λ x w. K .ways-whole x u w;
       sees-whole = λ a x z. absurd z;
+      less-right = λ x p. K .right (le x u) inside p;
+      ways-right = λ x p. K .ways-right x u inside p;
+      sees-right = λ a x h p. told-none worldsMax x p;
     })
   where
     last : n < suc n
@@ -52,7 +55,7 @@ pub kept-by : {n k a u : ℕ} {fs : List Fact} {r : List ℕ} →
 unfolding grownBy
 kept-by {n} {k} {a} {u} {fs} {r} K who inside small =
     kept-new {Less = λ x. ⊥} {Sees = λ c x. Way n (Closed n k (Among fs)) x u × Closed n k (Among fs) (sf u c a)} K inside small
-    (new-rows r u n 0 (seenRow r a u) (K .size) small)
+    (new-rows r u n 0 (getD r (upAt u) 0) (seenRow (sfRows r u) (getD r (upAt u) 0) a) (K .size) small)
     (record {
       leads = record {
         less-way = λ x z. absurd z;
@@ -67,10 +70,12 @@ kept-by {n} {k} {a} {u} {fs} {r} K who inside small =
       given-way = up-by edge (stop last);
       less-closed = λ x z. absurd z;
       sees-closed = λ c x p. way-by (closed (suc n) k (Among (by a u n ∷ fs))) (more (p .0)) (rule2 edge (closed-more (sf u c a) (p .1)));
-      less-right = λ x p. told-none x p;
       less-whole = λ x z. absurd z;
-      sees-right = right;
+      ways-whole = λ x w. K .ways-whole x u w;
       sees-whole = whole;
+      less-right = λ x p. told-none worldsMax x p;
+      ways-right = λ x p. K .ways-right x u inside p;
+      sees-right = right;
     })
   where
     last : n < suc n
@@ -82,25 +87,41 @@ kept-by {n} {k} {a} {u} {fs} {r} K who inside small =
     more : {x : ℕ} → Way n (Closed n k (Among fs)) x u → Way (suc n) (Closed (suc n) k (Among (by a u n ∷ fs))) x u
     more w = let h : n ≤ suc n = omega arith in way-more h (λ g c. closed-more g c) w
 
-    speaks : (c : ℕ) → c < k → bitOf (getD (sfRows r u) c 0) a ≡ told r (sf u c a)
+    speaks : (c : ℕ) → c < k → speaksIn (sfRows r u) c a ≡ told r (sf u c a)
     speaks c h = saved-told r u c a (omega (arith, K .principals))
 
-    right : (c x : ℕ) → c < k → bitOf (seenRow r a u c) x ≡ true → Way n (Closed n k (Among fs)) x u × Closed n k (Among fs) (sf u c a)
+    row : ℕ → ℕ
+    row = seenRow (sfRows r u) (getD r (upAt u) 0) a
+
+    whole : (c x : ℕ) → Way n (Closed n k (Among fs)) x u × Closed n k (Among fs) (sf u c a) → (c < k) × (bitOf (row c) x ≡ true)
+    whole c x p =
+        let h : (u < n) × (c < k) × (a < k) = proper (K .made) (p .1) in (
+          h .1,
+          when-told worldsMax (speaksIn (sfRows r u) c a) (getD r (upAt u) 0) x (speaks c (h .1) ∙ K .whole (sf u c a) (p .1)) (K .ways-whole x u (p .0)),
+        )
+
+    right : (c x : ℕ) → c < k → bitOf (row c) x ≡ true → Way n (Closed n k (Among fs)) x u × Closed n k (Among fs) (sf u c a)
     right c x h p =
-        let t = told-when (bitOf (getD (sfRows r u) c 0) a) (getD r (upAt u) 0) x p in
+        let t = told-when worldsMax (speaksIn (sfRows r u) c a) (getD r (upAt u) 0) x p in
         (K .ways-right x u inside (t .1), K .right (sf u c a) (inside, h, who) (sym (speaks c h) ∙ t .0))
 
-    whole : (c x : ℕ) → Way n (Closed n k (Among fs)) x u × Closed n k (Among fs) (sf u c a) → (c < k) × (bitOf (seenRow r a u c) x ≡ true)
-    whole c x p =
-        let h : (u < n) × (c < k) × (a < k) = proper (K .made) (p .1) in
-        (h .1, rw (speaks c (h .1) ∙ K .whole (sf u c a) (p .1)) (K .ways-whole x u (p .0)))
+-- What the stores of the code make of rows r.
+pub stored-le : (r : List ℕ) (u n : ℕ) {l w at c : ℕ} {x s : List ℕ} → l ≡ getD r (leAt u) 0 → w ≡ leadRow r u →
+    s ≡ newWorld r u n l w → at ≡ byAt n → c ≡ principalsMax → x ≡ fill (unseenRow r u) at c s → x ≡ grownLe r u n
+unfolding grownLe
+stored-le r u n hl hw hs hat hc hx = rw (hc, hat, hs, hw, hl) at hx
+
+pub stored-by : (r : List ℕ) (a u n : ℕ) {w at c : ℕ} {x s saved : List ℕ} → saved ≡ sfRows r u → w ≡ getD r (upAt u) 0 →
+    s ≡ newWorld r u n 0 w → at ≡ byAt n → c ≡ principalsMax → x ≡ fill (seenRow saved w a) at c s → x ≡ grownBy r a u n
+unfolding grownBy
+stored-by r a u n hv hw hs hat hc hx = rw (hc, hat, hs, hw, hv) at hx
 
 -- The rows of older worlds stand.
 pub agree-le : (n u w : ℕ) (r : List ℕ) → n ≤ w → Agree n r (grownLe r u w)
 unfolding grownLe
-agree-le n u w r h = new-agree r u w (getD r (leAt u) 0) (λ c. 0) n h
+agree-le n u w r h = new-agree r u w (getD r (leAt u) 0) (leadRow r u) (unseenRow r u) n h
 
 pub agree-by : (n a u w : ℕ) (r : List ℕ) → n ≤ w → Agree n r (grownBy r a u w)
 unfolding grownBy
 agree-by n a u w r h =
-    new-agree r u w 0 (seenRow r a u) n h
+    new-agree r u w 0 (getD r (upAt u) 0) (seenRow (sfRows r u) (getD r (upAt u) 0) a) n h

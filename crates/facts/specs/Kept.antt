@@ -11,7 +11,7 @@ use lib.ListN.{length, getD, replicate, length-replicate}
 use borrow.Author.Tests.{lt-ltb}
 use Rattle.scope.specs.Facts.{Fact, le, by, sf, Closed, Among, least}
 use Rattle.facts.specs.Fill.{fill, length-fill, fill-before, fill-at, below-or-past}
-use Rattle.facts.specs.Rows.{worldsMax, principalsMax, rowsEach, rowsMax, leAt, upAt, byAt, sfAt, bitOf, byRow, sfRow, told, sfRows, putSf}
+use Rattle.facts.specs.Rows.{worldsMax, principalsMax, rowsEach, rowsMax, leAt, upAt, byAt, sfAt, bitOf, byRow, sfRow, told, sfRows, backRow, putSf, speaksIn}
 
 -- What each fact of n worlds and k principals is: its numbers are among theirs, and it leads from a world to a newer one.
 abbrev pub Proper : ℕ → ℕ → Fact → Type 0
@@ -159,7 +159,13 @@ agree-fill f n m r h =
 
 pub agree-put : (n m : ℕ) (r s : List ℕ) → n ≤ suc m → Agree n r (putSf r m s)
 unfolding putSf
-agree-put n m r s h = agree-fill (λ c. getD s c 0) n m r h
+agree-put n m r s h = agree-fill (backRow r m s) n m r h
+
+-- What the stores of the code make of rows r.
+pub stored-back : (r : List ℕ) (m : ℕ) (s : List ℕ) {at c : ℕ} {x : List ℕ} → at ≡ sfAt m → c ≡ principalsMax →
+    x ≡ fill (backRow r m s) at c r → x ≡ putSf r m s
+unfolding putSf
+stored-back r m s hat hc hx = rw (hc, hat) at hx
 
 -- What was saved of world m is what stood there.
 pub saved-row : (r : List ℕ) (m c : ℕ) → c < principalsMax → getD (sfRows r m) c 0 ≡ getD r (sfAt m + c) 0
@@ -169,7 +175,7 @@ saved-row r m c h =
     (fill-at (λ i. getD r (sfAt m + i) 0) 0 principalsMax (replicate principalsMax 0) c h
     (rw length-replicate (omega arith)))
 
-pub saved-told : (r : List ℕ) (m c b : ℕ) → c < principalsMax → bitOf (getD (sfRows r m) c 0) b ≡ told r (sf m c b)
+pub saved-told : (r : List ℕ) (m c b : ℕ) → c < principalsMax → speaksIn (sfRows r m) c b ≡ told r (sf m c b)
 unfolding told
 saved-told r m c b h = rw (saved-row r m c h, sf-row r m c h)
 
@@ -180,7 +186,7 @@ unfolding putSf
 kept-back {m} {k} {fs} {r} {s} K a = kept-same K (length-fill back (sfAt m) principalsMax s ∙ a .same-length) same
   where
     back : ℕ → ℕ
-    back c = getD (sfRows r m) c 0
+    back = backRow s m (sfRows r m)
 
     room : sfAt m + principalsMax ≤ length s
     room = omega (arith, K .worlds, K .size, a .same-length)

@@ -1,6 +1,6 @@
 pub mod Fill
-pub mod Rows
 pub mod Bits
+pub mod Rows
 pub mod Kept
 pub mod Closing
 pub mod NewRows
@@ -8,3 +8,4 @@ pub mod NewKept
 pub mod Grown
 pub mod Noted
 pub mod Root
+pub mod Exact

@@ -42,21 +42,24 @@ closed-more {n} {k} {fs} {e} f c =
     (λ g p. given (there p)) c
 
 -- The new world's rows, with the given fact e that leads to it.
-pub record Edge (n k u l : ℕ) (f : ℕ → ℕ) (fs : List Fact) (e : Fact) (Less : ℕ → Type 0) (Sees : ℕ → ℕ → Type 0) : Type 0 where
+pub record Edge (n k u l up : ℕ) (f : ℕ → ℕ) (fs : List Fact) (e : Fact) (Less : ℕ → Type 0) (Sees : ℕ → ℕ → Type 0) : Type 0 where
   pub leads : Leads n u (Closed n k (Among fs)) Less Sees
   pub given-proper : Proper (suc n) k e
   pub given-new : New n u (Closed n k (Among fs)) Less Sees e
   pub given-way : Way (suc n) (Closed (suc n) k (Among (e ∷ fs))) u n
   pub less-closed : (x : ℕ) → Less x → Closed (suc n) k (Among (e ∷ fs)) (le x n)
   pub sees-closed : (a x : ℕ) → Sees a x → Closed (suc n) k (Among (e ∷ fs)) (by a x n)
-  pub less-right : (x : ℕ) → bitOf l x ≡ true → Less x
+  -- what the rows tell of it
   pub less-whole : (x : ℕ) → Less x → bitOf l x ≡ true
-  pub sees-right : (a x : ℕ) → a < k → bitOf (f a) x ≡ true → Sees a x
+  pub ways-whole : (x : ℕ) → Way n (Closed n k (Among fs)) x u → bitOf up x ≡ true
   pub sees-whole : (a x : ℕ) → Sees a x → (a < k) × (bitOf (f a) x ≡ true)
+  pub less-right : (x : ℕ) → bitOf l x ≡ true → Less x
+  pub ways-right : (x : ℕ) → bitOf up x ≡ true → Way n (Closed n k (Among fs)) x u
+  pub sees-right : (a x : ℕ) → a < k → bitOf (f a) x ≡ true → Sees a x
 
-module _ {n k u l : ℕ} {f : ℕ → ℕ} {fs : List Fact} {e : Fact} {Less : ℕ → Type 0} {Sees : ℕ → ℕ → Type 0} {r s : List ℕ}
-    (K : Kept n k fs r) (inside : u < n) (small : n < worldsMax) (N : NewRows n u l f r s)
-    (E : Edge n k u l f fs e Less Sees) where
+module _ {n k u l up : ℕ} {f : ℕ → ℕ} {fs : List Fact} {e : Fact} {Less : ℕ → Type 0} {Sees : ℕ → ℕ → Type 0} {r s : List ℕ}
+    (K : Kept n k fs r) (inside : u < n) (small : n < worldsMax) (N : NewRows n u l up f r s)
+    (E : Edge n k u l up f fs e Less Sees) where
   abbrev C : Fact → Type 0
   C = Closed n k (Among fs)
 
@@ -85,7 +88,7 @@ module _ {n k u l : ℕ} {f : ℕ → ℕ} {fs : List Fact} {e : Fact} {Less : �
   unfolding told
   at-sf v a b h d = rw (sf-row s v a (few h), sf-row r u a (few h), d, N .row-sf a (few h))
 
-  at-up : (x v : ℕ) → v ≡ n → bitOf (getD s (upAt v) 0) x ≡ bitOf (bitOr (getD r (upAt u) 0) (oneBit n)) x
+  at-up : (x v : ℕ) → v ≡ n → bitOf (getD s (upAt v) 0) x ≡ bitOf (bitOr up (oneBit n)) x
   at-up x v d = rw (d, N .row-up)
 
   as-before : (g : Fact) → Aimed n k g → told s g ≡ told r g
@@ -96,8 +99,8 @@ module _ {n k u l : ℕ} {f : ℕ → ℕ} {fs : List Fact} {e : Fact} {Less : �
   told-new (le x v) h p =
       ⊎-elim
       (λ d.
-      ⊎-elim (λ t. less d (E .less-right x t)) (λ t. self (told-only n x t) d)
-      (told-either l (oneBit n) x (sym (at-le x v d) ∙ p)))
+      ⊎-elim (λ t. less d (E .less-right x t)) (λ t. self (told-only worldsMax n x t) d)
+      (told-either worldsMax l (oneBit n) x (sym (at-le x v d) ∙ p)))
       (λ g. old (K .right (le x v) g (sym (as-before (le x v) g) ∙ p)))
       (place v h)
   told-new (by a x v) h p =
@@ -112,8 +115,8 @@ module _ {n k u l : ℕ} {f : ℕ → ℕ} {fs : List Fact} {e : Fact} {Less : �
   -- and what is old or new they tell.
   new-told : (g : Fact) → F g → told s g ≡ true
   new-told g (old c) = as-before g (aimed n k g (proper (K .made) c)) ∙ K .whole g c
-  new-told (le x v) (self c d) = at-le x v d ∙ told-right l (oneBit n) x (rw c (told-self n small))
-  new-told (le x v) (less d t) = at-le x v d ∙ told-left l (oneBit n) x (E .less-whole x t)
+  new-told (le x v) (self c d) = at-le x v d ∙ told-right worldsMax l (oneBit n) x (rw c (told-self worldsMax n small))
+  new-told (le x v) (less d t) = at-le x v d ∙ told-left worldsMax l (oneBit n) x (E .less-whole x t)
   new-told (by a x v) (sees d t) = let h = E .sees-whole a x t in at-by a x v (h .0) d ∙ h .1
   new-told (sf v a b) (like d c) =
       let h : (u < n) × (a < k) × (b < k) = proper (K .made) c in
@@ -152,9 +155,9 @@ module _ {n k u l : ℕ} {f : ℕ → ℕ} {fs : List Fact} {e : Fact} {Less : �
       ⊎-elim
       (λ d.
       rw d
-      (⊎-elim (λ t. way-then (way-new (K .ways-right x u inside t)) (E .given-way))
-      (λ t. rw (told-only n x t) (stop small-n))
-      (told-either (getD r (upAt u) 0) (oneBit n) x (sym (at-up x v d) ∙ p))))
+      (⊎-elim (λ t. way-then (way-new (E .ways-right x t)) (E .given-way))
+      (λ t. rw (told-only worldsMax n x t) (stop small-n))
+      (told-either worldsMax up (oneBit n) x (sym (at-up x v d) ∙ p))))
       (λ g. way-new (K .ways-right x v g (rw (N .older (upAt v) (omega arith)) at p)))
       (place v h)
     where
@@ -165,8 +168,8 @@ module _ {n k u l : ℕ} {f : ℕ → ℕ} {fs : List Fact} {e : Fact} {Less : �
   reached-told x v (before w) =
       let h : v < n = way-to w in
       rw (N .older (upAt v) (omega arith)) (K .ways-whole x v w)
-  reached-told x v (itself c d) = at-up x v d ∙ told-right (getD r (upAt u) 0) (oneBit n) x (rw c (told-self n small))
-  reached-told x v (past d w) = at-up x v d ∙ told-left (getD r (upAt u) 0) (oneBit n) x (K .ways-whole x u w)
+  reached-told x v (itself c d) = at-up x v d ∙ told-right worldsMax up (oneBit n) x (rw c (told-self worldsMax n small))
+  reached-told x v (past d w) = at-up x v d ∙ told-left worldsMax up (oneBit n) x (E .ways-whole x w)
 
   way-told : (x v : ℕ) → Way (suc n) D x v → bitOf (getD s (upAt v) 0) x ≡ true
   way-told x v w =

@@ -7,28 +7,29 @@ use lib.ListN.{length, getD, set, length-set}
 use lib.Seq.{getD-set-same, getD-set-other}
 use lib.Bits.{bitOr}
 use Rattle.facts.specs.Fill.{fill, length-fill, fill-before, fill-after, fill-at}
-use Rattle.facts.specs.Rows.{worldsMax, principalsMax, rowsEach, rowsMax, leAt, upAt, byAt, sfAt, oneBit, sfRows, putSf, newWorld}
+use Rattle.facts.specs.Rows.{worldsMax, principalsMax, rowsEach, rowsMax, leAt, upAt, byAt, sfAt, oneBit, sfRows, backRow, putSf, newWorld}
 use Rattle.facts.specs.Kept.{saved-row, Agree}
 
--- How a table s with the new world n behind u is read: l is its row of ≤ but for n ≤ n, and f c the row of S of principal c.
-pub record NewRows (n u l : ℕ) (f : ℕ → ℕ) (r s : List ℕ) : Type 0 where
+-- How a table s with the new world n behind u is read: l is its row of ≤ and up its row of ancestors, both but for n itself, and f c the row
+-- of S of principal c.
+pub record NewRows (n u l up : ℕ) (f : ℕ → ℕ) (r s : List ℕ) : Type 0 where
   pub size : length s ≡ length r
   pub older : (i : ℕ) → i < n * rowsEach → getD s i 0 ≡ getD r i 0
   pub row-le : getD s (leAt n) 0 ≡ bitOr l (oneBit n)
-  pub row-up : getD s (upAt n) 0 ≡ bitOr (getD r (upAt u) 0) (oneBit n)
+  pub row-up : getD s (upAt n) 0 ≡ bitOr up (oneBit n)
   pub row-by : (c : ℕ) → c < principalsMax → getD s (byAt n + c) 0 ≡ f c
   pub row-sf : (c : ℕ) → c < principalsMax → getD s (sfAt n + c) 0 ≡ getD r (sfAt u + c) 0
 
-module _ (r : List ℕ) (u n l : ℕ) (f : ℕ → ℕ) where
+module _ (r : List ℕ) (u n l up : ℕ) (f : ℕ → ℕ) where
   abbrev first : List ℕ
-  first = set (set r (leAt n) (bitOr l (oneBit n))) (upAt n) (bitOr (getD r (upAt u) 0) (oneBit n))
+  first = set (set r (leAt n) (bitOr l (oneBit n))) (upAt n) (bitOr up (oneBit n))
 
   abbrev back : ℕ → ℕ
-  back c = getD (sfRows r u) c 0
+  back = backRow first n (sfRows r u)
 
   first-length : length first ≡ length r
   first-length =
-      length-set (set r (leAt n) (bitOr l (oneBit n))) (upAt n) (bitOr (getD r (upAt u) 0) (oneBit n)) ∙
+      length-set (set r (leAt n) (bitOr l (oneBit n))) (upAt n) (bitOr up (oneBit n)) ∙
       length-set r (leAt n) (bitOr l (oneBit n))
 
   -- what stands before the rows of S and sf
@@ -41,7 +42,7 @@ module _ (r : List ℕ) (u n l : ℕ) (f : ℕ → ℕ) where
   first-other i h =
       let p : i ≡ upAt n → ⊥ = λ e. omega arith in
       let q : i ≡ leAt n → ⊥ = λ e. omega arith in
-      getD-set-other (set r (leAt n) (bitOr l (oneBit n))) (upAt n) i (bitOr (getD r (upAt u) 0) (oneBit n)) 0 p ∙
+      getD-set-other (set r (leAt n) (bitOr l (oneBit n))) (upAt n) i (bitOr up (oneBit n)) 0 p ∙
       getD-set-other r (leAt n) i (bitOr l (oneBit n)) 0 q
 
   new-length : length (fill f (byAt n) principalsMax (fill back (sfAt n) principalsMax first)) ≡ length r
@@ -50,7 +51,7 @@ module _ (r : List ℕ) (u n l : ℕ) (f : ℕ → ℕ) where
       length-fill back (sfAt n) principalsMax first ∙
       first-length
 
-  pub new-agree : (m : ℕ) → m ≤ n → Agree m r (fill f (byAt n) principalsMax (newWorld r u n l))
+  pub new-agree : (m : ℕ) → m ≤ n → Agree m r (fill f (byAt n) principalsMax (newWorld r u n l up))
   unfolding newWorld putSf
   new-agree m h =
       record {
@@ -58,7 +59,7 @@ module _ (r : List ℕ) (u n l : ℕ) (f : ℕ → ℕ) where
         same-rows = λ i g. let low : i < n * rowsEach = omega arith in front i (omega arith) ∙ first-other i low;
       }
 
-  pub new-rows : length r ≡ rowsMax → n < worldsMax → NewRows n u l f r (fill f (byAt n) principalsMax (newWorld r u n l))
+  pub new-rows : length r ≡ rowsMax → n < worldsMax → NewRows n u l up f r (fill f (byAt n) principalsMax (newWorld r u n l up))
   unfolding newWorld putSf
   new-rows size small =
       let two : length (set r (leAt n) (bitOr l (oneBit n))) ≡ length r = length-set r (leAt n) (bitOr l (oneBit n)) in
@@ -69,10 +70,10 @@ module _ (r : List ℕ) (u n l : ℕ) (f : ℕ → ℕ) where
         size = new-length;
         older = λ i h. front i (omega arith) ∙ first-other i h;
         row-le = front (leAt n) (omega arith) ∙
-            getD-set-other (set r (leAt n) (bitOr l (oneBit n))) (upAt n) (leAt n) (bitOr (getD r (upAt u) 0) (oneBit n)) 0 apart ∙
+            getD-set-other (set r (leAt n) (bitOr l (oneBit n))) (upAt n) (leAt n) (bitOr up (oneBit n)) 0 apart ∙
             getD-set-same r (leAt n) (bitOr l (oneBit n)) 0 (omega arith);
         row-up = front (upAt n) (omega arith) ∙
-            getD-set-same (set r (leAt n) (bitOr l (oneBit n))) (upAt n) (bitOr (getD r (upAt u) 0) (oneBit n)) 0 (omega arith);
+            getD-set-same (set r (leAt n) (bitOr l (oneBit n))) (upAt n) (bitOr up (oneBit n)) 0 (omega arith);
         row-by = λ c h. fill-at f (byAt n) principalsMax (fill back (sfAt n) principalsMax first) c h (omega arith);
         row-sf = λ c h.
             fill-after f (byAt n) principalsMax (fill back (sfAt n) principalsMax first) (sfAt n + c) (omega arith) ∙

@@ -7,10 +7,11 @@ use mathlib.Core.Logic.{⊎-elim}
 use native.Mathlib.Omega.{arith}
 use native.Mathlib.Nat.{eq-or-lt-of-le}
 use lib.ListN.{getD}
+use lib.Bits.{bitOr}
 use Rattle.scope.specs.Facts.{Fact, le, by, sf, Closed, given, rule1, rule3, Among, here, there, closed, least}
 use Rattle.facts.specs.Fill.{fill, length-fill, fill-before, fill-at}
-use Rattle.facts.specs.Rows.{principalsMax, leAt, upAt, byAt, sfAt, when, bitOf, sfRow, told, sfRows, notedRow, noted}
-use Rattle.facts.specs.Bits.{told-left, told-right, told-either, told-when}
+use Rattle.facts.specs.Rows.{worldsMax, principalsMax, leAt, upAt, byAt, sfAt, bitOf, told, sfRows, speaksIn, takenRow, notedRow, noted}
+use Rattle.facts.specs.Bits.{when, told-left, told-right, told-either, told-when, when-told}
 use Rattle.facts.specs.Kept.{Proper, Aimed, Way, way-to, Kept, proper, aimed, by-row, sf-row, saved-told, Agree, agree-fill}
 use Rattle.facts.specs.Closing.{way-more, Noted, kept, note, noted-closed, noted-way}
 
@@ -27,7 +28,7 @@ module _ {m k a b : ℕ} {fs : List Fact} {r : List ℕ} (K : Kept (suc m) k fs 
   D = Closed (suc m) k (Among (sf m a b ∷ fs))
 
   abbrev s : List ℕ
-  s = fill (notedRow r m a b) (sfAt m) principalsMax r
+  s = fill (notedRow (sfRows r m) a b) (sfAt m) principalsMax r
 
   few : {c : ℕ} → c < k → c < principalsMax
   few {c} h = omega (arith, K .principals)
@@ -36,7 +37,7 @@ module _ {m k a b : ℕ} {fs : List Fact} {r : List ℕ} (K : Kept (suc m) k fs 
   last = omega arith
 
   older : (i : ℕ) → i < sfAt m → getD s i 0 ≡ getD r i 0
-  older i h = fill-before (notedRow r m a b) (sfAt m) principalsMax r i h
+  older i h = fill-before (notedRow (sfRows r m) a b) (sfAt m) principalsMax r i h
 
   -- what the rows tell of ≤ and S, of sf at older worlds, and of sf at m
   at-le : (x v : ℕ) → v < suc m → told s (le x v) ≡ told r (le x v)
@@ -53,53 +54,33 @@ module _ {m k a b : ℕ} {fs : List Fact} {r : List ℕ} (K : Kept (suc m) k fs 
   at-old v c d g h =
       rw (sf-row s v c (few g), sf-row r v c (few g), older (sfAt v + c) (omega (arith, few g)))
 
-  at-new : (v c d : ℕ) → c < k → v ≡ m → told s (sf v c d) ≡ bitOf (notedRow r m a b c) d
+  at-new : (v c d : ℕ) → c < k → v ≡ m → told s (sf v c d) ≡ bitOf (notedRow (sfRows r m) a b c) d
   unfolding told
   at-new v c d g e =
       rw (
         sf-row s v c (few g),
         e,
-        fill-at (notedRow r m a b) (sfAt m) principalsMax r c (few g) (omega (arith, K .worlds, K .size)),
+        fill-at (notedRow (sfRows r m) a b) (sfAt m) principalsMax r c (few g) (omega (arith, K .worlds, K .size)),
       )
 
   at-up : (x v : ℕ) → v < suc m → bitOf (getD s (upAt v) 0) x ≡ bitOf (getD r (upAt v) 0) x
   at-up x v h = rw (older (upAt v) (omega arith))
 
-  -- So what they tell is old or noted,
-  right-sf : (v c d : ℕ) → c < k → d < k → v ≡ m → told s (sf v c d) ≡ true → Noted m a b C (sf v c d)
-  unfolding told
-  right-sf v c d g h e p =
-      ⊎-elim
-      (λ t. kept (rw e (K .right (sf m c d) (last, g, h) (sym (saved-told r m c d (few g)) ∙ t))))
-      (λ t.
-      let w = told-when (bitOf (getD (sfRows r m) c 0) a) (sfRow r m b) d t in
-      note e (K .right (sf m c a) (last, g, ha) (sym (saved-told r m c a (few g)) ∙ w .0))
-      (K .right (sf m b d) (last, hb, h) (w .1)))
-      (told-either (getD (sfRows r m) c 0) (when (bitOf (getD (sfRows r m) c 0) a) (sfRow r m b)) d
-      (sym (at-new v c d g e) ∙ p))
-
-  told-noted : (g : Fact) → Aimed (suc m) k g → told s g ≡ true → Noted m a b C g
-  told-noted (le x v) h p = kept (K .right (le x v) h (sym (at-le x v h) ∙ p))
-  told-noted (by c x v) h p = kept (K .right (by c x v) h (sym (at-by c x v (h .0) (h .1)) ∙ p))
-  told-noted (sf v c d) h p =
-      ⊎-elim (λ e. right-sf v c d (h .1) (h .2) e p)
-      (λ l. kept (K .right (sf v c d) h (sym (at-old v c d (h .1) l) ∙ p)))
-      (eq-or-lt-of-le {n = v} {m = m} (omega arith))
-
-  -- and what is old or noted they tell.
-  whole-sf : (v c d : ℕ) → c < k → v ≡ m → C (sf v c d) → told s (sf v c d) ≡ true
-  whole-sf v c d g e p =
-      at-new v c d g e ∙
-      told-left (getD (sfRows r m) c 0) (when (bitOf (getD (sfRows r m) c 0) a) (sfRow r m b)) d
-      (saved-told r m c d (few g) ∙ K .whole (sf m c d) (rw e at p))
-
+  -- So what is old or noted they tell,
   whole-note : (v c d : ℕ) → v ≡ m → C (sf m c a) → C (sf m b d) → told s (sf v c d) ≡ true
   unfolding told
   whole-note v c d e p q =
       let h : (m < suc m) × (c < k) × (a < k) = proper (K .made) p in
       at-new v c d (h .1) e ∙
-      told-right (getD (sfRows r m) c 0) (when (bitOf (getD (sfRows r m) c 0) a) (sfRow r m b)) d
-      (rw (saved-told r m c a (few (h .1)) ∙ K .whole (sf m c a) p) (K .whole (sf m b d) q))
+      told-right worldsMax (getD (sfRows r m) c 0) (takenRow (sfRows r m) a b c) d
+      (when-told worldsMax (speaksIn (sfRows r m) c a) (getD (sfRows r m) b 0) d (saved-told r m c a (few (h .1)) ∙ K .whole (sf m c a) p)
+      (saved-told r m b d (few hb) ∙ K .whole (sf m b d) q))
+
+  whole-sf : (v c d : ℕ) → c < k → v ≡ m → C (sf v c d) → told s (sf v c d) ≡ true
+  whole-sf v c d g e p =
+      at-new v c d g e ∙
+      told-left worldsMax (getD (sfRows r m) c 0) (takenRow (sfRows r m) a b c) d
+      (saved-told r m c d (few g) ∙ K .whole (sf m c d) (rw e at p))
 
   noted-told : (g : Fact) → Noted m a b C g → told s g ≡ true
   noted-told (le x v) (kept p) = at-le x v (aimed (suc m) k (le x v) (proper (K .made) p)) ∙ K .whole (le x v) p
@@ -111,6 +92,27 @@ module _ {m k a b : ℕ} {fs : List Fact} {r : List ℕ} (K : Kept (suc m) k fs 
       ⊎-elim (λ e. whole-sf v c d (h .1) e p) (λ l. at-old v c d (h .1) l ∙ K .whole (sf v c d) p)
       (eq-or-lt-of-le {n = v} {m = m} (omega arith))
   noted-told (sf v c d) (note e p q) = whole-note v c d e p q
+
+  -- and what they tell is old or noted.
+  right-sf : (v c d : ℕ) → c < k → d < k → v ≡ m → told s (sf v c d) ≡ true → Noted m a b C (sf v c d)
+  unfolding told
+  right-sf v c d g h e p =
+      ⊎-elim
+      (λ t. kept (rw e (K .right (sf m c d) (last, g, h) (sym (saved-told r m c d (few g)) ∙ t))))
+      (λ t.
+      let w = told-when worldsMax (speaksIn (sfRows r m) c a) (getD (sfRows r m) b 0) d t in
+      note e (K .right (sf m c a) (last, g, ha) (sym (saved-told r m c a (few g)) ∙ w .0))
+      (K .right (sf m b d) (last, hb, h) (sym (saved-told r m b d (few hb)) ∙ w .1)))
+      (told-either worldsMax (getD (sfRows r m) c 0) (takenRow (sfRows r m) a b c) d
+      (sym (at-new v c d g e) ∙ p))
+
+  told-noted : (g : Fact) → Aimed (suc m) k g → told s g ≡ true → Noted m a b C g
+  told-noted (le x v) h p = kept (K .right (le x v) h (sym (at-le x v h) ∙ p))
+  told-noted (by c x v) h p = kept (K .right (by c x v) h (sym (at-by c x v (h .0) (h .1)) ∙ p))
+  told-noted (sf v c d) h p =
+      ⊎-elim (λ e. right-sf v c d (h .1) (h .2) e p)
+      (λ l. kept (K .right (sf v c d) h (sym (at-old v c d (h .1) l) ∙ p)))
+      (eq-or-lt-of-le {n = v} {m = m} (omega arith))
 
   -- What is old or noted follows, and what follows is old or noted.
   noted-follows : (g : Fact) → Noted m a b C g → D g
@@ -143,7 +145,7 @@ kept-note {m} {k} {a} {b} {fs} {r} K ha hb =
       rooted = K .rooted;
       worlds = K .worlds;
       principals = K .principals;
-      size = length-fill (notedRow r m a b) (sfAt m) principalsMax r ∙ K .size;
+      size = length-fill (notedRow (sfRows r m) a b) (sfAt m) principalsMax r ∙ K .size;
       made = given-proper K ha hb;
       right = λ g h p. noted-follows K ha hb g (told-noted K ha hb g h p);
       whole = λ g c. noted-told K ha hb g (follows-noted K ha hb g c);
@@ -153,7 +155,13 @@ kept-note {m} {k} {a} {b} {fs} {r} K ha hb =
       ways-whole = λ x v w. at-up K ha hb x v (way-to w) ∙ K .ways-whole x v (way-back K ha hb w);
     }
 
+-- What the stores of the code make of rows r.
+pub stored-note : (r : List ℕ) (m a b : ℕ) {more at c : ℕ} {x s : List ℕ} → s ≡ sfRows r m → more ≡ getD s b 0 → at ≡ sfAt m →
+    c ≡ principalsMax → x ≡ fill (λ i. bitOr (getD s i 0) (when (speaksIn s i a) more)) at c r → x ≡ noted r m a b
+unfolding noted
+stored-note r m a b hs hm hat hc hx = rw (hc, hat, hm, hs) at hx
+
 -- It writes over no row but those.
 pub agree-note : (n m a b : ℕ) (r : List ℕ) → n ≤ suc m → Agree n r (noted r m a b)
 unfolding noted
-agree-note n m a b r h = agree-fill (notedRow r m a b) n m r h
+agree-note n m a b r h = agree-fill (notedRow (sfRows r m) a b) n m r h

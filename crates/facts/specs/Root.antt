@@ -9,7 +9,7 @@ use lib.Seq.{getD-set-same, getD-set-other}
 use Rattle.scope.specs.Facts.{Fact, le, by, sf, Rules, Closed, rule1, rule7, Among, here, there, least}
 use Rattle.facts.specs.Fill.{fill, length-fill, fill-before, fill-at}
 use Rattle.facts.specs.Rows.{worldsMax, principalsMax, rowsMax, leAt, upAt, byAt, sfAt, bitOf, oneBit, told, withRoot, rootRows}
-use Rattle.facts.specs.Bits.{told-none, told-self, told-only}
+use Rattle.facts.specs.Bits.{oneIn, told-none, told-self, told-only}
 use Rattle.facts.specs.Kept.{Aimed, Way, stop, way-from, way-to, Kept, proper, by-row, sf-row}
 
 -- What follows from no given facts at the root.
@@ -57,7 +57,7 @@ module _ (k : ℕ) (few : k ≤ principalsMax) (z : List ℕ) (size : length z �
   first-length = length-set (set z (leAt 0) 1) (upAt 0) 1 ∙ length-set z (leAt 0) 1 ∙ size
 
   one : oneBit 0 ≡ 1
-  unfolding oneBit
+  unfolding oneIn
   one = refl
 
   row-le : (v : ℕ) → v < 1 → getD s (leAt v) 0 ≡ oneBit 0
@@ -97,30 +97,30 @@ module _ (k : ℕ) (few : k ≤ principalsMax) (z : List ℕ) (size : length z �
 
   told-start : (f : Fact) → Aimed 1 k f → told s f ≡ true → Start k f
   unfolding told
-  told-start (le x v) h p = (told-only 0 x (rw (row-le v h) at p), omega arith)
+  told-start (le x v) h p = (told-only worldsMax 0 x (rw (row-le v h) at p), omega arith)
   told-start (by a x v) h p =
       let g : a < principalsMax = omega arith in
-      told-none x (rw (by-row s v a g, row-by v a (h .1) g) at p)
+      told-none worldsMax x (rw (by-row s v a g, row-by v a (h .1) g) at p)
   told-start (sf v a b) h p =
       let g : a < principalsMax = omega arith in
-      (omega arith, sym (told-only a b (rw (sf-row s v a g, row-sf v a (h .0) g) at p)), h .1)
+      (omega arith, sym (told-only worldsMax a b (rw (sf-row s v a g, row-sf v a (h .0) g) at p)), h .1)
 
   start-told : (f : Fact) → Start k f → told s f ≡ true
   unfolding told
   start-told (le x v) p =
       let h : v < 1 = omega arith in
       let g : 0 < worldsMax = omega arith in
-      rw (row-le v h, p .0) (told-self 0 g)
+      rw (row-le v h, p .0) (told-self worldsMax 0 g)
   start-told (by a x v) p = absurd p
   start-told (sf v a b) p =
       let h : v < 1 = omega arith in
       let g : a < principalsMax = omega arith in
       let l : a < worldsMax = omega arith in
-      rw (sf-row s v a g, row-sf v a h g, ← p .1) (told-self a l)
+      rw (sf-row s v a g, row-sf v a h g, ← p .1) (told-self worldsMax a l)
 
   told-way : (x v : ℕ) → v < 1 → bitOf (getD s (upAt v) 0) x ≡ true → Way 1 (Closed 1 k (Among [])) x v
   told-way x v h p =
-      let e : x ≡ v = told-only 0 x (rw (row-up v h) at p) ∙ omega arith in
+      let e : x ≡ v = told-only worldsMax 0 x (rw (row-up v h) at p) ∙ omega arith in
       rw e (stop h)
 
   way-told : (x v : ℕ) → Way 1 (Closed 1 k (Among [])) x v → bitOf (getD s (upAt v) 0) x ≡ true
@@ -128,7 +128,7 @@ module _ (k : ℕ) (few : k ≤ principalsMax) (z : List ℕ) (size : length z �
       let h : v < 1 = way-to w in
       let g : 0 < worldsMax = omega arith in
       let e : x ≡ 0 = omega (arith, way-from {k = k} (λ f. proper {base = Among []} (λ q p. absurd (never p refl))) w) in
-      rw (row-up v h, e) (told-self 0 g)
+      rw (row-up v h, e) (told-self worldsMax 0 g)
 
   kept-zeros : Kept 1 k [] (withRoot z)
   unfolding withRoot

@@ -1,15 +1,15 @@
 -- The closed facts of a sequent as rows of bits in one table, and what each function of this crate makes of a table. Every definition is
 -- total: a row past the table's end reads as 0 and is not written, and a number too large for a row's bits is in no row.
-use Prim.Native.Nat.{ℕ, _+_, _*_, _^_, _/_, _%_}
-use mathlib.Core.Bool.{Bool, true, false}
+use Prim.Native.Nat.{ℕ, _+_, _*_}
+use mathlib.Core.Bool.{Bool}
 use mathlib.Core.List.{List}
 use lib.ListN.{getD, set, replicate}
 use lib.Bits.{bitOr}
-use lib.Dec.{eqb, ltb}
-use Rattle.scope.specs.Form.{both}
+use lib.Dec.{ltb}
 use Rattle.scope.specs.Limits.{mostWorlds, mostPrincipals}
 use Rattle.scope.specs.Facts.{Fact, le, by, sf}
 use Rattle.facts.specs.Fill.{fill}
+use Rattle.facts.specs.Bits.{when, bitIn, oneIn}
 
 -- A row has a bit for each world; each world has one row of ≤, one of its ancestors, and one of S and one of sf for each principal.
 abbrev pub worldsMax : ℕ
@@ -41,17 +41,12 @@ byAt v = rowAt v 2
 abbrev pub sfAt : ℕ → ℕ
 sfAt v = rowAt v (2 + principalsMax)
 
-abbrev pub when : Bool → ℕ → ℕ
-when true x = x
-when false x = 0
-
 -- The bit of a number in a row, and the row with that bit alone.
-unfoldable pub bitOf : ℕ → ℕ → Bool
-unfolding both
-bitOf row i = both (ltb i worldsMax) (eqb (row / 2 ^ i % 2) 1)
+abbrev pub bitOf : ℕ → ℕ → Bool
+bitOf row i = bitIn worldsMax row i
 
-unfoldable pub oneBit : ℕ → ℕ
-oneBit i = when (ltb i worldsMax) (2 ^ i)
+abbrev pub oneBit : ℕ → ℕ
+oneBit i = oneIn worldsMax i
 
 -- The row of S, and the row of sf, of a principal: 0 for a number that no principal has.
 unfoldable pub byRow : List ℕ → ℕ → ℕ → ℕ
@@ -62,17 +57,20 @@ sfRow r v a = when (ltb a principalsMax) (getD r (sfAt v + a) 0)
 
 -- What the rows tell of a fact.
 unfoldable pub told : List ℕ → Fact → Bool
-unfolding bitOf byRow sfRow
+unfolding byRow sfRow
 told r (le u v) = bitOf (getD r (leAt v) 0) u
 told r (by a u v) = bitOf (byRow r v a) u
 told r (sf u a b) = bitOf (sfRow r u a) b
 
--- The rows of sf of a world, and a table with such rows put back.
+-- The rows of sf of a world, and a table with such rows put in place of what stands there.
 unfoldable pub sfRows : List ℕ → ℕ → List ℕ
 sfRows r m = fill (λ c. getD r (sfAt m + c) 0) 0 principalsMax (replicate principalsMax 0)
 
+abbrev pub backRow : List ℕ → ℕ → List ℕ → ℕ → ℕ
+backRow r m s c = getD s c 0
+
 unfoldable pub putSf : List ℕ → ℕ → List ℕ → List ℕ
-putSf r m s = fill (λ c. getD s c 0) (sfAt m) principalsMax r
+putSf r m s = fill (backRow r m s) (sfAt m) principalsMax r
 
 -- World 0 alone: 0 ≤ 0, and c sf c there for every principal.
 unfoldable pub withRoot : List ℕ → List ℕ
@@ -81,28 +79,42 @@ withRoot r = fill oneBit (sfAt 0) principalsMax (set (set r (leAt 0) 1) (upAt 0)
 unfoldable pub rootRows : List ℕ
 rootRows = withRoot (replicate rowsMax 0)
 
--- The first two rows of a new world n, and the rows of sf taken over from u.
-unfoldable pub newWorld : List ℕ → ℕ → ℕ → ℕ → List ℕ
-unfolding putSf sfRows oneBit
-newWorld r u n less =
-    putSf (set (set r (leAt n) (bitOr less (oneBit n))) (upAt n) (bitOr (getD r (upAt u) 0) (oneBit n))) n (sfRows r u)
+-- Is a sf b in such rows?
+abbrev pub speaksIn : List ℕ → ℕ → ℕ → Bool
+speaksIn s a b = bitOf (getD s a 0) b
 
--- Behind u by u ≤ n: what is ≤ u is ≤ n, and no S fact leads to n.
+-- The first two rows of a new world n, where `less` and `ways` are those of the worlds before it, and the rows of sf taken over from u.
+unfoldable pub newWorld : List ℕ → ℕ → ℕ → ℕ → ℕ → List ℕ
+unfolding putSf sfRows
+newWorld r u n less ways =
+    putSf (set (set r (leAt n) (bitOr less (oneBit n))) (upAt n) (bitOr ways (oneBit n))) n (sfRows r u)
+
+-- Behind u by u ≤ n: what is ≤ u is ≤ n, what leads to u leads to n (`leadRow`), and no S fact leads to n (`unseenRow`).
+abbrev pub leadRow : List ℕ → ℕ → ℕ
+leadRow r u = getD r (upAt u) 0
+
+abbrev pub unseenRow : List ℕ → ℕ → ℕ → ℕ
+unseenRow r u c = 0
+
 unfoldable pub grownLe : List ℕ → ℕ → ℕ → List ℕ
 unfolding newWorld
-grownLe r u n = fill (λ c. 0) (byAt n) principalsMax (newWorld r u n (getD r (leAt u) 0))
+grownLe r u n = fill (unseenRow r u) (byAt n) principalsMax (newWorld r u n (getD r (leAt u) 0) (leadRow r u))
 
 -- Behind u by u S_a n: only n ≤ n; of principal c with u: c sf a, S leads to n from u and all before it.
 abbrev pub seenRow : List ℕ → ℕ → ℕ → ℕ → ℕ
-seenRow r a u c = when (bitOf (getD (sfRows r u) c 0) a) (getD r (upAt u) 0)
+seenRow s ways a c = when (speaksIn s c a) ways
 
 unfoldable pub grownBy : List ℕ → ℕ → ℕ → ℕ → List ℕ
 unfolding newWorld
-grownBy r a u n = fill (seenRow r a u) (byAt n) principalsMax (newWorld r u n 0)
+grownBy r a u n =
+    fill (seenRow (sfRows r u) (getD r (upAt u) 0) a) (byAt n) principalsMax (newWorld r u n 0 (getD r (upAt u) 0))
 
--- a sf b noted at m: each row of sf that has a takes in the row of b.
-abbrev pub notedRow : List ℕ → ℕ → ℕ → ℕ → ℕ → ℕ
-notedRow r m a b c = bitOr (getD (sfRows r m) c 0) (when (bitOf (getD (sfRows r m) c 0) a) (sfRow r m b))
+-- a sf b noted at m: each row of sf that has a takes in the row of b (`takenRow`), beside what stood in it.
+abbrev pub takenRow : List ℕ → ℕ → ℕ → ℕ → ℕ
+takenRow s a b c = when (speaksIn s c a) (getD s b 0)
+
+abbrev pub notedRow : List ℕ → ℕ → ℕ → ℕ → ℕ
+notedRow s a b c = bitOr (getD s c 0) (takenRow s a b c)
 
 unfoldable pub noted : List ℕ → ℕ → ℕ → ℕ → List ℕ
-noted r m a b = fill (notedRow r m a b) (sfAt m) principalsMax r
+noted r m a b = fill (notedRow (sfRows r m) a b) (sfAt m) principalsMax r

@@ -3,8 +3,9 @@
 ghost use mathlib.Core.Path.{_≡_};
 ghost use lib.ListN.{getD, set};
 ghost use Rattle.scope.specs.Facts.{le, by, sf};
-ghost use Rattle.facts.specs.Rows.{rowAt, when, bitOf, oneBit, byRow, sfRow, told};
-ghost use Rattle.facts.specs.Rows.{sfRows, putSf, rootRows, newWorld, grownLe, grownBy, noted};
+ghost use Rattle.facts.specs.Bits.{when};
+ghost use Rattle.facts.specs.Rows.{rowAt, bitOf, oneBit, byRow, sfRow, told};
+ghost use Rattle.facts.specs.Rows.{sfRows, putSf, speaksIn, rootRows, newWorld, grownLe, grownBy, noted};
 
 pub type Row = u32;
 
@@ -13,7 +14,7 @@ pub const WORLDS: usize = 32;
 pub const PRINCIPALS: usize = 16;
 
 // The rows that lead to a world: one of ≤, one of its ancestors, PRINCIPALS of S, PRINCIPALS of sf.
-const EACH: usize = 34;
+const EACH: usize = 2 + 2 * PRINCIPALS;
 
 const LE: u16 = 0;
 
@@ -23,7 +24,7 @@ const BY: u16 = 2;
 
 const SF: u16 = 18;
 
-pub const ROWS: usize = 1088;
+pub const ROWS: usize = WORLDS * EACH;
 
 // The number of a world, and the number of a principal.
 pub struct World(pub u16);
@@ -53,20 +54,20 @@ fn put_row(rows: &mut [Row], i: usize, x: Row)
 }
 
 // The bit of a number in a row, and the row with that bit alone.
-fn bit_of(row: Row, i: usize) -> bool
+fn bit_of(row: Row, i: u16) -> bool
     ensures { λ r. ⌜ r ≡ bitOf row i ⌝ }
 {
-    if i < WORLDS {
+    if (i as usize) < WORLDS {
         (row >> i) % 2 == 1
     } else {
         false
     }
 }
 
-fn one_bit(i: usize) -> Row
+fn one_bit(i: u16) -> Row
     ensures { λ r. ⌜ r ≡ oneBit i ⌝ }
 {
-    if i < WORLDS { 1 << i } else { 0 }
+    if (i as usize) < WORLDS { 1 << i } else { 0 }
 }
 
 // The row, or the row of no bits.
@@ -106,21 +107,21 @@ pub fn has_le(rows: &[Row; ROWS], u: World, v: World) -> bool
     ensures { λ r. ⌜ r ≡ told (now (rows .entry)) (le (u .0) (v .0)) ⌝ }
 {
     let row = get_row(rows, place_of(v, LE));
-    bit_of(row, u.0 as usize)
+    bit_of(row, u.0)
 }
 
 pub fn has_by(rows: &[Row; ROWS], a: Principal, u: World, v: World) -> bool
     ensures { λ r. ⌜ r ≡ told (now (rows .entry)) (by (a .0) (u .0) (v .0)) ⌝ }
 {
     let row = by_row(rows, v, a);
-    bit_of(row, u.0 as usize)
+    bit_of(row, u.0)
 }
 
 pub fn has_sf(rows: &[Row; ROWS], u: World, a: Principal, b: Principal) -> bool
     ensures { λ r. ⌜ r ≡ told (now (rows .entry)) (sf (u .0) (a .0) (b .0)) ⌝ }
 {
     let row = sf_row(rows, u, a);
-    bit_of(row, b.0 as usize)
+    bit_of(row, b.0)
 }
 
 // What a waiting obligation saves of its newest world, and gives back.
@@ -144,6 +145,14 @@ pub fn put_sf(rows: &mut [Row; ROWS], m: World, saved: [Row; PRINCIPALS])
     }
 }
 
+// Is a sf b in saved rows?
+fn speaks_in(saved: &[Row; PRINCIPALS], a: Principal, b: Principal) -> bool
+    ensures { λ r. ⌜ r ≡ speaksIn (now (saved .entry)) (a .0) (b .0) ⌝ }
+{
+    let row = get_row(saved, a.0 as usize);
+    bit_of(row, b.0)
+}
+
 // World 0 alone.
 pub fn root_rows(rows: &mut [Row; ROWS])
     ensures { λ _. ⌜ now (rows .exit) ≡ rootRows ⌝ }
@@ -155,20 +164,20 @@ pub fn root_rows(rows: &mut [Row; ROWS])
     put_row(rows, le, 1);
     put_row(rows, up, 1);
     for c in 0..PRINCIPALS {
-        let own = one_bit(c);
+        let own = one_bit(c as u16);
         put_row(rows, at + c, own);
     }
 }
 
-// The first two rows of a new world n behind u, where `less` has the worlds that are ≤ n by it, and the rows of sf, which are those of u.
-fn new_world(rows: &mut [Row; ROWS], u: World, n: World, less: Row)
-    ensures { λ _. ⌜ now (rows .exit) ≡ newWorld (now (rows .entry)) (u .0) (n .0) less ⌝ }
+// The first two rows of a new world n behind u, where `less` has the worlds that are ≤ n by it and `ways` those that lead to it, and the
+// rows of sf, which are those of u.
+fn new_world(rows: &mut [Row; ROWS], u: World, n: World, less: Row, ways: Row)
+    ensures { λ _. ⌜ now (rows .exit) ≡ newWorld (now (rows .entry)) (u .0) (n .0) less ways ⌝ }
 {
-    let own = one_bit(n.0 as usize);
+    let own = one_bit(n.0);
     let saved = sf_rows(rows, u);
-    let up = get_row(rows, place_of(u, UP));
     put_row(rows, place_of(n, LE), less | own);
-    put_row(rows, place_of(n, UP), up | own);
+    put_row(rows, place_of(n, UP), ways | own);
     put_sf(rows, n, saved);
 }
 
@@ -177,7 +186,8 @@ pub fn grow_le(rows: &mut [Row; ROWS], u: World, n: World)
     ensures { λ _. ⌜ now (rows .exit) ≡ grownLe (now (rows .entry)) (u .0) (n .0) ⌝ }
 {
     let less = get_row(rows, place_of(u, LE));
-    new_world(rows, u, n, less);
+    let ways = get_row(rows, place_of(u, UP));
+    new_world(rows, u, n, less, ways);
     let at = place_of(n, BY);
     for c in 0..PRINCIPALS {
         put_row(rows, at + c, 0);
@@ -190,12 +200,12 @@ pub fn grow_by(rows: &mut [Row; ROWS], a: Principal, u: World, n: World)
 {
     let saved = sf_rows(rows, u);
     let ways = get_row(rows, place_of(u, UP));
-    new_world(rows, u, n, 0);
+    new_world(rows, u, n, 0, ways);
     let at = place_of(n, BY);
-    let who = a.0 as usize;
     for c in 0..PRINCIPALS {
-        let speaks = bit_of(saved[c], who);
-        let row = row_if(speaks, ways);
+        let number = c as u16;
+        let sees = speaks_in(&saved, Principal(number), a);
+        let row = row_if(sees, ways);
         put_row(rows, at + c, row);
     }
 }
@@ -205,11 +215,11 @@ pub fn add_note(rows: &mut [Row; ROWS], m: World, a: Principal, b: Principal)
     ensures { λ _. ⌜ now (rows .exit) ≡ noted (now (rows .entry)) (m .0) (a .0) (b .0) ⌝ }
 {
     let saved = sf_rows(rows, m);
-    let more = sf_row(rows, m, b);
+    let more = get_row(&saved, b.0 as usize);
     let at = place_of(m, SF);
-    let first = a.0 as usize;
     for c in 0..PRINCIPALS {
-        let speaks = bit_of(saved[c], first);
+        let number = c as u16;
+        let speaks = speaks_in(&saved, Principal(number), a);
         let row = saved[c] | row_if(speaks, more);
         put_row(rows, at + c, row);
     }

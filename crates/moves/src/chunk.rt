@@ -2,6 +2,9 @@
 ghost use mathlib.Core.Path.{_≡_};
 ghost use Rattle.moves.specs.Steps.{pushedKind, pushStep, splitStep, caseStep, absurdStep, dropStep, noteStep};
 use crate::Judged;
+use crate::MOST_CHUNKS;
+use crate::MOST_CLAUSES;
+use crate::MOST_OPEN;
 use crate::Move;
 use crate::Row;
 use facts::Principal;
@@ -24,7 +27,7 @@ pub(crate) fn push_step(r: Row, clauses: u16) -> Judged
 {
     let fits = pushed_kind(r.kind);
     if fits {
-        if 256 <= clauses {
+        if MOST_CLAUSES <= clauses {
             return Judged::No(10);
         }
         return Judged::Fits(Move::Push);
@@ -38,7 +41,7 @@ pub(crate) fn split_step(r: Row, count: u16) -> Judged
     if r.kind != 3 {
         return Judged::No(7);
     }
-    if 16 <= count {
+    if MOST_CHUNKS <= count {
         return Judged::No(10);
     }
     Judged::Fits(Move::Split(r.left, r.right))
@@ -50,7 +53,7 @@ pub(crate) fn case_step(r: Row, opened: u16) -> Judged
     if r.kind != 4 {
         return Judged::No(7);
     }
-    if 256 <= opened {
+    if MOST_OPEN <= opened {
         return Judged::No(10);
     }
     Judged::Fits(Move::Case(r.left, r.right))

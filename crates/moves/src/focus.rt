@@ -3,6 +3,7 @@ ghost use mathlib.Core.Path.{_≡_};
 ghost use Rattle.moves.specs.Steps.{leftStep, rightStep, toImp, toSays, toStep, hitStep};
 use crate::Judged;
 use crate::Lab;
+use crate::MOST_OPEN;
 use crate::Move;
 use crate::Phase;
 use crate::Row;
@@ -50,7 +51,7 @@ fn to_imp(
     if v.0 < worlds {
         let there = facts::has_le(rows, u, v);
         if there {
-            if 256 <= opened {
+            if MOST_OPEN <= opened {
                 return Judged::No(10);
             }
             let subgoal = Lab {

@@ -4,6 +4,8 @@ ghost use Rattle.moves.specs.Steps.{andStep, or1Step, or2Step, impStep, 
 use crate::Found;
 use crate::Judged;
 use crate::Lab;
+use crate::MOST_OPEN;
+use crate::MOST_WORLDS;
 use crate::Move;
 use crate::Phase;
 use crate::Row;
@@ -17,7 +19,7 @@ pub(crate) fn and_step(r: Row, u: World, opened: u16) -> Judged
     if r.kind != 3 {
         return Judged::No(7);
     }
-    if 256 <= opened {
+    if MOST_OPEN <= opened {
         return Judged::No(10);
     }
     let first = Lab {
@@ -63,7 +65,7 @@ pub(crate) fn imp_step(r: Row, worlds: u16) -> Judged
     if r.kind != 5 {
         return Judged::No(7);
     }
-    if 32 <= worlds {
+    if MOST_WORLDS <= worlds {
         return Judged::No(10);
     }
     Judged::Fits(Move::Less(r.left, r.right))
@@ -75,7 +77,7 @@ pub(crate) fn says_step(r: Row, worlds: u16) -> Judged
     if r.kind != 6 {
         return Judged::No(7);
     }
-    if 32 <= worlds {
+    if MOST_WORLDS <= worlds {
         return Judged::No(10);
     }
     Judged::Fits(Move::Speak(Principal(r.left), r.right))

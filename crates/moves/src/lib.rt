@@ -7,6 +7,15 @@ mod focus;
 mod goal;
 pub mod judging;
 
+// What a sequent and its obligations may have at most.
+const MOST_WORLDS: u16 = 32;
+
+const MOST_CLAUSES: u16 = 256;
+
+const MOST_OPEN: u16 = 256;
+
+const MOST_CHUNKS: u16 = 16;
+
 // The number of a clause: never that of a world.
 pub struct Clause(pub u16);
 

@@ -1,21 +1,19 @@
 -- `facts::grow_by` meets its contract: after c turns the first c principals have their row of S to the new world.
 use borrow.Author.Needs.{needs}
-use Rattle.facts.specs.Rows.{when, bitOf, grownBy}
+use Rattle.facts.specs.Rows.{seenRow}
+use Rattle.facts.specs.Grown.{stored-by}
 use Rattle.facts.specs.Fill.{fill, fill-more}
-use lib.ListN.{getD}
-use mathlib.Core.Path.{_≡_, refl, _∙_}
-use Prim.Native.Nat.{ℕ, _≤_, _-_}
+use mathlib.Core.Path.{_≡_, refl}
+use Prim.Native.Nat.{_≤_, _-_}
 use native.Mathlib.Omega.{arith}
 use Rattle.facts.proofs.grow_by.Statement.{statement}
 use Rattle.facts.proofs.grow_by.Tie as tie
 
 abbrev Inv-loop : tie.InvT-loop
-Inv-loop rows₀ saved ways at who c₀ rows c =
-    (c ≤ 16) ×
-    (rows ≡ fill (λ (i : ℕ). when (bitOf (getD saved i 0) who) ways) at c rows₀)
+Inv-loop rows₀ a saved ways at c₀ rows c = (c ≤ 16) × (rows ≡ fill (seenRow saved ways (a .0)) at c rows₀)
 
 abbrev μ-loop : tie.MeasureT-loop
-μ-loop rows₀ saved ways at who c₀ rows c = 16 - c
+μ-loop rows₀ a saved ways at c₀ rows c = 16 - c
 
 sf-rows-requires : tie.Need-sf-rows-requires Inv-loop μ-loop
 sf-rows-requires c κs = search needs
@@ -32,21 +30,15 @@ new-world-requires c κs = search needs
 place-of-requires-2 : tie.Need-place-of-requires-2 Inv-loop μ-loop
 place-of-requires-2 c κs = search needs
 
-cast-who : tie.Need-cast-who Inv-loop μ-loop
-cast-who c = search needs
-
 loop-holds : tie.Need-loop-holds Inv-loop μ-loop
 unfolding fill
 loop-holds c = (omega arith, refl)
 
-mul-bit-of : tie.Need-mul-bit-of Inv-loop μ-loop
-mul-bit-of c = omega arith
+cast-number : tie.Need-cast-number Inv-loop μ-loop
+cast-number c = omega arith
 
-array-read-bit-of : tie.Need-array-read-bit-of Inv-loop μ-loop
-array-read-bit-of c = omega arith
-
-bit-of-requires : tie.Need-bit-of-requires Inv-loop μ-loop
-bit-of-requires c κs = search needs
+speaks-in-requires : tie.Need-speaks-in-requires Inv-loop μ-loop
+speaks-in-requires c κs = search needs
 
 row-if-requires : tie.Need-row-if-requires Inv-loop μ-loop
 row-if-requires c κs = search needs
@@ -67,24 +59,21 @@ loop-again : tie.Need-loop-again Inv-loop μ-loop
 loop-again c = (
   omega arith,
   fill-more _ _ _ _
-      (c .before .before .before .before .before .loop .inv .1)
+      (c .before .before .before .before .before .before .loop .inv .1)
       (c .put-row .ensures)
-      (c .before .before .row-if .ensures ∙ rw (c .before .before .before .bit-of .ensures) refl),
+      (rw (c .before .before .row-if .ensures, c .before .before .before .speaks-in .ensures) refl),
 )
 
 returns : tie.Need-returns Inv-loop μ-loop
-unfolding grownBy
 returns c =
     let done : c .before .loop .c ≡ 16 = omega arith in
-    rw (
-      done,
-      c .before .before .before .place-of2 .ensures,
-      c .before .before .before .before .new-world .ensures,
-      c .before .before .before .before .before .before .get-row .ensures,
-      c .before .before .before .before .before .before .before .place-of .ensures,
-      c .before .before .before .before .before .before .before .before .before .before .sf-rows .ensures,
-    )
-    at (c .before .loop .inv .1)
+    stored-by _ _ _ _
+    (c .before .before .before .before .before .before .before .before .before .sf-rows .ensures)
+    (rw (c .before .before .before .before .before .before .place-of .ensures) at (c .before .before .before .before .before .get-row .ensures))
+    (c .before .before .before .new-world .ensures)
+    (c .before .before .place-of2 .ensures)
+    done
+    (c .before .loop .inv .1)
 
 pub grow-by-spec : {M : Type 1} → statement M
 grow-by-spec =
@@ -97,11 +86,9 @@ grow-by-spec =
     get-row-requires
     new-world-requires
     place-of-requires-2
-    cast-who
     loop-holds
-    mul-bit-of
-    array-read-bit-of
-    bit-of-requires
+    cast-number
+    speaks-in-requires
     row-if-requires
     add-put-row
     put-row-requires

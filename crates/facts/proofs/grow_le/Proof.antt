@@ -1,6 +1,6 @@
 -- `facts::grow_le` meets its contract: after c turns no S fact of the first c principals leads to the new world.
 use borrow.Author.Needs.{needs}
-use Rattle.facts.specs.Rows.{grownLe}
+use Rattle.facts.specs.Grown.{stored-le}
 use Rattle.facts.specs.Fill.{fill, fill-more}
 use mathlib.Core.Path.{_≡_, refl}
 use Prim.Native.Nat.{ℕ, _≤_, _-_}
@@ -9,10 +9,10 @@ use Rattle.facts.proofs.grow_le.Statement.{statement}
 use Rattle.facts.proofs.grow_le.Tie as tie
 
 abbrev Inv-loop : tie.InvT-loop
-Inv-loop rows₀ less at c₀ rows c = (c ≤ 16) × (rows ≡ fill (λ (i : ℕ). 0) at c rows₀)
+Inv-loop rows₀ less ways at c₀ rows c = (c ≤ 16) × (rows ≡ fill (λ (i : ℕ). 0) at c rows₀)
 
 abbrev μ-loop : tie.MeasureT-loop
-μ-loop rows₀ less at c₀ rows c = 16 - c
+μ-loop rows₀ less ways at c₀ rows c = 16 - c
 
 place-of-requires : tie.Need-place-of-requires Inv-loop μ-loop
 place-of-requires c κs = search needs
@@ -20,11 +20,17 @@ place-of-requires c κs = search needs
 get-row-requires : tie.Need-get-row-requires Inv-loop μ-loop
 get-row-requires c κs = search needs
 
+place-of-requires-2 : tie.Need-place-of-requires-2 Inv-loop μ-loop
+place-of-requires-2 c κs = search needs
+
+get-row-requires-2 : tie.Need-get-row-requires-2 Inv-loop μ-loop
+get-row-requires-2 c κs = search needs
+
 new-world-requires : tie.Need-new-world-requires Inv-loop μ-loop
 new-world-requires c κs = search needs
 
-place-of-requires-2 : tie.Need-place-of-requires-2 Inv-loop μ-loop
-place-of-requires-2 c κs = search needs
+place-of-requires-3 : tie.Need-place-of-requires-3 Inv-loop μ-loop
+place-of-requires-3 c κs = search needs
 
 loop-holds : tie.Need-loop-holds Inv-loop μ-loop
 unfolding fill
@@ -52,17 +58,15 @@ loop-again c = (
 )
 
 returns : tie.Need-returns Inv-loop μ-loop
-unfolding grownLe
 returns c =
     let done : c .before .loop .c ≡ 16 = omega arith in
-    rw (
-      done,
-      c .before .before .place-of2 .ensures,
-      c .before .before .before .new-world .ensures,
-      c .before .before .before .before .before .get-row .ensures,
-      c .before .before .before .before .before .before .place-of .ensures,
-    )
-    at (c .before .loop .inv .1)
+    stored-le _ _ _
+    (rw (c .before .before .before .before .before .before .before .before .before .before .place-of .ensures) at (c .before .before .before .before .before .before .before .before .before .get-row .ensures))
+    (rw (c .before .before .before .before .before .before .place-of2 .ensures) at (c .before .before .before .before .before .get-row2 .ensures))
+    (c .before .before .before .new-world .ensures)
+    (c .before .before .place-of3 .ensures)
+    done
+    (c .before .loop .inv .1)
 
 pub grow-le-spec : {M : Type 1} → statement M
 grow-le-spec =
@@ -72,8 +76,10 @@ grow-le-spec =
     μ-loop
     place-of-requires
     get-row-requires
-    new-world-requires
     place-of-requires-2
+    get-row-requires-2
+    new-world-requires
+    place-of-requires-3
     loop-holds
     add-put-row
     put-row-requires

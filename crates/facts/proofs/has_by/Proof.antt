@@ -7,9 +7,6 @@ use Rattle.facts.proofs.has_by.Tie as tie
 by-row-requires : tie.Need-by-row-requires
 by-row-requires c κs = search needs
 
-cast-bit-of : tie.Need-cast-bit-of
-cast-bit-of c = search needs
-
 bit-of-requires : tie.Need-bit-of-requires
 bit-of-requires c κs = search needs
 
@@ -18,4 +15,4 @@ unfolding told
 returns c = cc
 
 pub has-by-spec : {M : Type 1} → statement M
-has-by-spec = tie.close (tie.spec by-row-requires cast-bit-of bit-of-requires returns)
+has-by-spec = tie.close (tie.spec by-row-requires bit-of-requires returns)

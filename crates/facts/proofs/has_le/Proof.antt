@@ -10,9 +10,6 @@ place-of-requires c κs = search needs
 get-row-requires : tie.Need-get-row-requires
 get-row-requires c κs = search needs
 
-cast-bit-of : tie.Need-cast-bit-of
-cast-bit-of c = search needs
-
 bit-of-requires : tie.Need-bit-of-requires
 bit-of-requires c κs = search needs
 
@@ -22,4 +19,4 @@ returns c = cc
 
 pub has-le-spec : {M : Type 1} → statement M
 has-le-spec =
-    tie.close (tie.spec place-of-requires get-row-requires cast-bit-of bit-of-requires returns)
+    tie.close (tie.spec place-of-requires get-row-requires bit-of-requires returns)

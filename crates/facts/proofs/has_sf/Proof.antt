@@ -7,9 +7,6 @@ use Rattle.facts.proofs.has_sf.Tie as tie
 sf-row-requires : tie.Need-sf-row-requires
 sf-row-requires c κs = search needs
 
-cast-bit-of : tie.Need-cast-bit-of
-cast-bit-of c = search needs
-
 bit-of-requires : tie.Need-bit-of-requires
 bit-of-requires c κs = search needs
 
@@ -18,4 +15,4 @@ unfolding told
 returns c = cc
 
 pub has-sf-spec : {M : Type 1} → statement M
-has-sf-spec = tie.close (tie.spec sf-row-requires cast-bit-of bit-of-requires returns)
+has-sf-spec = tie.close (tie.spec sf-row-requires bit-of-requires returns)

@@ -4,9 +4,6 @@ use Rattle.facts.specs.Rows.{newWorld}
 use Rattle.facts.proofs.new_world.Statement.{statement}
 use Rattle.facts.proofs.new_world.Tie as tie
 
-cast-one-bit : tie.Need-cast-one-bit
-cast-one-bit c = search needs
-
 one-bit-requires : tie.Need-one-bit-requires
 one-bit-requires c κs = search needs
 
@@ -16,17 +13,11 @@ sf-rows-requires c κs = search needs
 place-of-requires : tie.Need-place-of-requires
 place-of-requires c κs = search needs
 
-get-row-requires : tie.Need-get-row-requires
-get-row-requires c κs = search needs
-
-place-of-requires-2 : tie.Need-place-of-requires-2
-place-of-requires-2 c κs = search needs
-
 put-row-requires : tie.Need-put-row-requires
 put-row-requires c κs = search needs
 
-place-of-requires-3 : tie.Need-place-of-requires-3
-place-of-requires-3 c κs = search needs
+place-of-requires-2 : tie.Need-place-of-requires-2
+place-of-requires-2 c κs = search needs
 
 put-row-requires-2 : tie.Need-put-row-requires-2
 put-row-requires-2 c κs = search needs
@@ -39,13 +30,11 @@ unfolding newWorld
 returns c =
     rw (
       c .before .before .put-row2 .ensures,
-      c .before .before .before .place-of3 .ensures,
+      c .before .before .before .place-of2 .ensures,
       c .before .before .before .before .before .put-row .ensures,
-      c .before .before .before .before .before .before .place-of2 .ensures,
-      c .before .before .before .before .before .before .before .before .get-row .ensures,
-      c .before .before .before .before .before .before .before .before .before .place-of .ensures,
-      c .before .before .before .before .before .before .before .before .before .before .before .before .sf-rows .ensures,
-      c .before .before .before .before .before .before .before .before .before .before .before .before .before .before .one-bit .ensures,
+      c .before .before .before .before .before .before .place-of .ensures,
+      c .before .before .before .before .before .before .before .before .sf-rows .ensures,
+      c .before .before .before .before .before .before .before .before .before .before .one-bit .ensures,
     )
     at (c .put-sf .ensures)
 
@@ -53,14 +42,11 @@ pub new-world-spec : {M : Type 1} → statement M
 new-world-spec =
     tie.close
     (tie.spec
-    cast-one-bit
     one-bit-requires
     sf-rows-requires
     place-of-requires
-    get-row-requires
-    place-of-requires-2
     put-row-requires
-    place-of-requires-3
+    place-of-requires-2
     put-row-requires-2
     put-sf-requires
     returns)

@@ -1,6 +1,6 @@
 -- `facts::put_sf` meets its contract: after c turns the first c rows are put back.
 use borrow.Author.Needs.{needs}
-use Rattle.facts.specs.Rows.{putSf}
+use Rattle.facts.specs.Kept.{stored-back}
 use Rattle.facts.specs.Fill.{fill, fill-more}
 use lib.ListN.{getD}
 use mathlib.Core.Path.{_≡_, refl}
@@ -50,10 +50,9 @@ loop-again c = (
 )
 
 returns : tie.Need-returns Inv-loop μ-loop
-unfolding putSf
 returns c =
     let done : c .before .loop .c ≡ 16 = omega arith in
-    rw (done, c .before .before .place-of .ensures) at (c .before .loop .inv .1)
+    stored-back _ _ _ (c .before .before .place-of .ensures) done (c .before .loop .inv .1)
 
 pub put-sf-spec : {M : Type 1} → statement M
 put-sf-spec =

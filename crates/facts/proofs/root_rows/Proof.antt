@@ -35,6 +35,9 @@ loop-holds : tie.Need-loop-holds Inv-loop μ-loop
 unfolding fill
 loop-holds c = (omega arith, refl)
 
+cast-one-bit : tie.Need-cast-one-bit Inv-loop μ-loop
+cast-one-bit c = omega arith
+
 one-bit-requires : tie.Need-one-bit-requires Inv-loop μ-loop
 one-bit-requires c κs = search needs
 
@@ -91,6 +94,7 @@ root-rows-spec =
     put-row-requires
     put-row-requires-2
     loop-holds
+    cast-one-bit
     one-bit-requires
     add-put-row
     put-row-requires-3
