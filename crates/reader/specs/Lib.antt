@@ -3,7 +3,6 @@ pub mod Answers
 pub mod Lines
 pub mod Many
 pub mod Stored
-pub mod Refused
 pub mod Whole
 pub mod Turns
 pub mod Got

@@ -25,7 +25,8 @@ use Rattle.lines.specs.declared.Number.{Number}
 use Rattle.lines.specs.declared.Number.the-variants as NumberValue
 use Rattle.lines.specs.declared.Row.{Row as RowAnswer}
 use Rattle.lines.specs.declared.Row.the-variants as RowValue
-use Rattle.reader.specs.Sections.{row, belowRefusal, classRefusal}
+use Rattle.refusals.specs.Rows.{row}
+use Rattle.reader.specs.Sections.{belowRefusal, classRefusal}
 use Rattle.reader.specs.Answers.{numberLineOf, rowLineOf}
 use Rattle.reader.specs.declared.NumberLine.the-variants as NumberLine
 use Rattle.reader.specs.declared.RowLine.the-variants as RowLine

@@ -12,9 +12,6 @@ use Rattle.scope.specs.Text.{versionLine, principalsLine, atomsLine, formulasLi
 use Rattle.scope.specs.Reader.{formItem, clauseItem, stepItem}
 use Rattle.classes.specs.Class.{policyIn}
 
-abbrev pub row : ℕ → ℕ → ℕ → Row
-row k l r = record { kind = k; left = l; right = r }
-
 -- The first four lines.
 pub record Counted : Type 0 where
   pub principals : ℕ

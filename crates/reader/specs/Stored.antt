@@ -10,7 +10,7 @@ use lib.Seq.{sets, sets-eq, take-append-seam, drop-append-add}
 use Rattle.scope.specs.Request.{Row}
 use Rattle.scope.specs.Bytes.{joined}
 use Rattle.scope.specs.Tables.{Entry, formEntry, lineEntry, stepEntry, unpack, pack, padded, table}
-use Rattle.reader.specs.Sections.{row}
+use Rattle.refusals.specs.Rows.{row}
 
 pub table-none : {A : Type 0} (e : Entry A) (len : ℕ) → table e len [] ≡ replicate len 0
 unfolding table pack padded joined

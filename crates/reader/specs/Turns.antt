@@ -16,7 +16,8 @@ use Rattle.scope.specs.Text.{versionLine, principalsLine, atomsLine, formulasLi
 use Rattle.scope.specs.Reader.{formItem, stepItem}
 use Rattle.classes.specs.Class.{policyIn}
 use Rattle.lines.specs.Parts.{valueOf, restOf}
-use Rattle.reader.specs.Sections.{row, Counted, headPart, classRefusal, classedItem}
+use Rattle.refusals.specs.Rows.{row}
+use Rattle.reader.specs.Sections.{Counted, headPart, classRefusal, classedItem}
 use Rattle.reader.specs.Answers.{refusalIs, numberLineOf, rowLineOf, sectionOf, headOf}
 use Rattle.reader.specs.Lines.{no-form, no-step, row-ok, row-bad, number-ok, number-bad}
 use Rattle.reader.specs.Many.{onto, many-more, many-stop, many-end, many-start, tail-length, rest-tail}

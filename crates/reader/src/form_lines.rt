@@ -8,62 +8,16 @@ ghost use Prim.Native.Nat.{_≤_};
 ghost use mathlib.Core.List.{List, []};
 ghost use Prim.Native.Nat.{ℕ};
 ghost use lib.ListN.{length, replicate};
-ghost use Rattle.scope.specs.Form.{both};
 ghost use Rattle.scope.specs.Bytes.{bytes};
 ghost use Rattle.scope.specs.Line.{judged, many, ok};
 ghost use Rattle.scope.specs.Kinds.{formKinds, rowIn};
-ghost use Rattle.scope.specs.Refusals.{demand, rowRefusal};
+ghost use Rattle.scope.specs.Refusals.{rowRefusal};
 ghost use Rattle.scope.specs.Request.{Row as FormRow};
 ghost use Rattle.scope.specs.Reader.{formItem};
 ghost use Rattle.scope.specs.Tables.{table, formEntry};
 ghost use Rattle.lines.specs.Parts.{valueOf};
 ghost use Rattle.reader.specs.Answers.{rowLineOf, sectionOf, formulasOf, formulaCount};
-ghost use Rattle.reader.specs.Sections.{row, Formulas, formulasPart};
-
-pub(crate) fn both_of(a: bool, b: bool) -> bool
-    ensures { λ r. ⌜ r ≡ both a b ⌝ }
-{
-    if a { b } else { false }
-}
-
-// 3 before 4: an unused operand that is not 0, a number outside its range, a formula that is no earlier one.
-pub(crate) fn refusal_of(unused: bool, ranges: bool, earlier: bool) -> u16
-    ensures { λ r. ⌜ r ≡ demand unused 3 (demand ranges 3 (demand earlier 4 0)) ⌝ }
-{
-    if !unused {
-        return 3;
-    }
-    if !ranges {
-        return 3;
-    }
-    if earlier { 0 } else { 4 }
-}
-
-// p, top, bot, and, or, imp, says, sf
-fn form_refusal(
-    kind: usize,
-    left: u32,
-    right: u32,
-    principals: u16,
-    atoms: u16,
-    formula: u16,
-) -> u16
-    ensures { λ r. ⌜ r ≡ rowRefusal formKinds principals atoms formula (row kind left right) ⌝ }
-{
-    let i = formula as u32;
-    let p = principals as u32;
-    match kind {
-        0 => refusal_of(right == 0, left < atoms as u32, true),
-        1 => refusal_of(both_of(left == 0, right == 0), true, true),
-        2 => refusal_of(both_of(left == 0, right == 0), true, true),
-        3 => refusal_of(true, true, both_of(left < i, right < i)),
-        4 => refusal_of(true, true, both_of(left < i, right < i)),
-        5 => refusal_of(true, true, both_of(left < i, right < i)),
-        6 => refusal_of(true, left < p, right < i),
-        7 => refusal_of(true, both_of(left < p, right < p), true),
-        _ => 3,
-    }
-}
+ghost use Rattle.reader.specs.Sections.{Formulas, formulasPart};
 
 fn form_line(text: &[u8], principals: u16, atoms: u16, formula: u16) -> RowLine
     ensures { λ r. ⌜ r ≡ rowLineOf (judged (rowRefusal formKinds principals atoms formula) (rowIn formKinds (valueOf (bytes "form=") (now (text .entry))))) ⌝ }
@@ -73,7 +27,7 @@ fn form_line(text: &[u8], principals: u16, atoms: u16, formula: u16) -> RowLine
     let Row::Items(kind, left, right) = got else {
         return RowLine::Refused(2);
     };
-    let refusal = form_refusal(kind, left, right, principals, atoms, formula);
+    let refusal = refusals::form_refusal(kind, left, right, principals, atoms, formula);
     if refusal != 0 {
         return RowLine::Refused(refusal);
     }

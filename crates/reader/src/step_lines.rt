@@ -17,25 +17,7 @@ ghost use Rattle.scope.specs.Reader.{stepItem};
 ghost use Rattle.scope.specs.Tables.{table, stepEntry};
 ghost use Rattle.lines.specs.Parts.{valueOf};
 ghost use Rattle.reader.specs.Answers.{rowLineOf, sectionOf, stepsOf};
-ghost use Rattle.reader.specs.Sections.{row, stepsPart};
-
-// `use` and `to` carry a number, the other kinds none.
-fn step_refusal(kind: usize, left: u32, right: u32) -> u16
-    ensures { λ r. ⌜ r ≡ stepRefusal (row kind left right) ⌝ }
-{
-    if 18 <= kind {
-        return 3;
-    }
-    match kind {
-        7 => crate::form_lines::refusal_of(right == 0, left <= 65535, true),
-        10 => crate::form_lines::refusal_of(right == 0, left <= 65535, true),
-        _ => crate::form_lines::refusal_of(
-            crate::form_lines::both_of(left == 0, right == 0),
-            true,
-            true,
-        ),
-    }
-}
+ghost use Rattle.reader.specs.Sections.{stepsPart};
 
 fn step_line(text: &[u8]) -> RowLine
     ensures { λ r. ⌜ r ≡ rowLineOf (judged stepRefusal (rowIn stepKinds (valueOf (bytes "step=") (now (text .entry))))) ⌝ }
@@ -45,7 +27,7 @@ fn step_line(text: &[u8]) -> RowLine
     let Row::Items(kind, left, right) = got else {
         return RowLine::Refused(2);
     };
-    let refusal = step_refusal(kind, left, right);
+    let refusal = refusals::step_refusal(kind, left, right);
     if refusal != 0 {
         return RowLine::Refused(refusal);
     }

@@ -1,6 +1,5 @@
 pub mod Met
 pub mod MetLaws
 pub mod Answers
-pub mod Refusals
 pub mod Sections
 pub mod Whole

@@ -9,7 +9,7 @@ ghost use Rattle.scope.specs.Checked.{allZero, pastZero, checked};
 ghost use Rattle.scope.specs.Tables.{hasRoom, unpack, formEntry, lineEntry, stepEntry};
 ghost use Rattle.tables.specs.Met.{checkedOf, met, lentWith};
 ghost use Rattle.tables.specs.Answers.{countAnswers, formAnswer, formAnswers, lineAnswers, stepAnswers};
-ghost use Rattle.tables.specs.Refusals.{row};
+ghost use Rattle.refusals.specs.Rows.{row};
 ghost use Rattle.tables.specs.Whole.{formPart, linePart, stepPart};
 use counts::Counts;
 use counts::Refusal;
@@ -63,7 +63,14 @@ fn check_counts(principals: u16, atoms: u16, formulas: u16) -> Checked
 fn check_form(principals: u16, atoms: u16, i: u16, kind: u16, left: u16, right: u16) -> Checked
     ensures { λ r. ⌜ r ≡ checkedOf (formAnswer principals atoms i (row kind left right)) ⌝ }
 {
-    let number = rows::form_refusal(principals, atoms, i, kind, left, right);
+    let number = refusals::form_refusal(
+        kind as usize,
+        left as u32,
+        right as u32,
+        principals,
+        atoms,
+        i,
+    );
     let place = 5 + i as u32;
     answer_at(number, place)
 }
@@ -108,10 +115,9 @@ fn check_steps(formulas: u16, lines: u16, count: u16, steps: &[u16]) -> Checked
     let mut i: u16 = 0;
     while i < count {
         let at = 2 * (i as usize);
-        let number = rows::step_refusal(
-            classes::entry_at(steps, at),
-            classes::entry_at(steps, at + 1),
-        );
+        let kind = classes::entry_at(steps, at);
+        let carried = classes::entry_at(steps, at + 1);
+        let number = refusals::step_refusal(kind as usize, carried as u32, 0);
         let place = 8 + formulas as u32 + lines as u32 + i as u32;
         let step = answer_at(number, place);
         let Checked::Fine = step else {

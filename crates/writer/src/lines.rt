@@ -9,7 +9,7 @@ ghost use Rattle.scope.specs.Kinds.{kindIn, formKinds, stepKinds};
 ghost use Rattle.scope.specs.Text.{formLine, stepLine};
 ghost use Rattle.writer.specs.Puts.{Puts};
 ghost use Rattle.writer.specs.Lines.{countLine, operandText, operandsText};
-ghost use Rattle.tables.specs.Refusals.{row};
+ghost use Rattle.refusals.specs.Rows.{row};
 
 fn put_bytes(out: &mut [u8], at: usize, text: &[u8]) -> usize
     requires { ⌜ (at < 9990000) × (length (now text) ≤ 16) ⌝ }

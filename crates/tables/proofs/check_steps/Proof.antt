@@ -38,6 +38,12 @@ add-entry-at c = search needs
 entry-at-requires-2 : tie.Need-entry-at-requires-2 Inv-loop μ-loop
 entry-at-requires-2 c κs = search needs
 
+cast-step-refusal : tie.Need-cast-step-refusal Inv-loop μ-loop
+cast-step-refusal c = search needs
+
+cast-step-refusal-2 : tie.Need-cast-step-refusal-2 Inv-loop μ-loop
+cast-step-refusal-2 c = search needs
+
 step-refusal-requires : tie.Need-step-refusal-requires Inv-loop μ-loop
 step-refusal-requires c κs = search needs
 
@@ -109,6 +115,8 @@ check-steps-spec =
     entry-at-requires
     add-entry-at
     entry-at-requires-2
+    cast-step-refusal
+    cast-step-refusal-2
     step-refusal-requires
     add-place
     add-place-2

@@ -5,7 +5,7 @@ use Rattle.scope.specs.Kinds.{formKinds}
 use Rattle.scope.specs.Refusals.{rowRefusal}
 use Rattle.lines.specs.Parts.{valueOf}
 use Rattle.reader.specs.Lines.{row-lost, row-turned, row-taken}
-use Rattle.reader.specs.Refused.{form-small}
+use Rattle.refusals.specs.Rows.{form-small}
 use borrow.Author.Needs.{needs}
 use native.Mathlib.Omega.{arith}
 use Rattle.reader.proofs.form_lines.form_line.Statement.{statement}

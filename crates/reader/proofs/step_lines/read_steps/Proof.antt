@@ -8,7 +8,7 @@ use Rattle.scope.specs.Line.{many}
 use Rattle.scope.specs.Request.{Row}
 use Rattle.scope.specs.Reader.{stepItem}
 use Rattle.scope.specs.Tables.{table, stepEntry}
-use Rattle.reader.specs.Sections.{row}
+use Rattle.refusals.specs.Rows.{row}
 use Rattle.reader.specs.Answers.{refusalIs, rowRefused}
 use Rattle.reader.specs.Many.{onto}
 use Rattle.reader.specs.Stored.{table-none, step-more}

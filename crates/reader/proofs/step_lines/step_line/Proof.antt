@@ -5,7 +5,7 @@ use Rattle.scope.specs.Kinds.{stepKinds}
 use Rattle.scope.specs.Refusals.{stepRefusal}
 use Rattle.lines.specs.Parts.{valueOf}
 use Rattle.reader.specs.Lines.{row-lost, row-turned, row-taken}
-use Rattle.reader.specs.Refused.{step-small}
+use Rattle.refusals.specs.Rows.{step-small}
 use borrow.Author.Needs.{needs}
 use native.Mathlib.Omega.{arith}
 use Rattle.reader.proofs.step_lines.step_line.Statement.{statement}

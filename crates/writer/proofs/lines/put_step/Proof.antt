@@ -5,7 +5,7 @@ use Rattle.scope.specs.Bytes.{bytes}
 use Rattle.scope.specs.Kinds.{stepKinds}
 use Rattle.writer.specs.Puts.{puts-then, puts-same}
 use Rattle.writer.specs.Lines.{row-line}
-use Rattle.tables.specs.Refusals.{row}
+use Rattle.refusals.specs.Rows.{row}
 use Rattle.writer.proofs.lines.put_step.Statement.{statement}
 use Rattle.writer.proofs.lines.put_step.Tie as tie
 

@@ -1,13 +1,12 @@
--- `reader::form_lines::form_refusal` meets its contract: for each kind the demands that its operands make, in their order.
+-- `refusals::form_refusal` meets its contract: for each kind the demands that its operands make, in their order.
 use mathlib.Core.Path.{ap, sym, _∙_}
 use mathlib.Core.Bool.{true}
 use Rattle.scope.specs.Kinds.{formKinds}
 use Rattle.scope.specs.Refusals.{rowRefusal}
-use Rattle.reader.specs.Sections.{row}
-use Rattle.reader.specs.Refused.{demands, form-0, form-1, form-2, form-3, form-4, form-5, form-6, form-7, form-other}
+use Rattle.refusals.specs.Rows.{row, demands, form-0, form-1, form-2, form-3, form-4, form-5, form-6, form-7, form-other}
 use borrow.Author.Needs.{needs}
-use Rattle.reader.proofs.form_lines.form_refusal.Statement.{statement}
-use Rattle.reader.proofs.form_lines.form_refusal.Tie as tie
+use Rattle.refusals.proofs.form_refusal.Statement.{statement}
+use Rattle.refusals.proofs.form_refusal.Tie as tie
 
 refusal-of-requires : tie.Need-refusal-of-requires
 refusal-of-requires c κs = search needs

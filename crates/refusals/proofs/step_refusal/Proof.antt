@@ -1,12 +1,11 @@
--- `reader::step_lines::step_refusal` meets its contract: `use` and `to` carry a number up to 65,535, the other kinds none.
+-- `refusals::step_refusal` meets its contract: `use` and `to` carry a number up to 65,535, the other kinds none.
 use mathlib.Core.Path.{ap, sym, _∙_}
 use mathlib.Core.Bool.{true}
 use Rattle.scope.specs.Refusals.{stepRefusal}
-use Rattle.reader.specs.Sections.{row}
-use Rattle.reader.specs.Refused.{demands, step-7, step-10, step-over, step-plain}
+use Rattle.refusals.specs.Rows.{row, demands, step-7, step-10, step-over, step-plain}
 use borrow.Author.Needs.{needs}
-use Rattle.reader.proofs.step_lines.step_refusal.Statement.{statement}
-use Rattle.reader.proofs.step_lines.step_refusal.Tie as tie
+use Rattle.refusals.proofs.step_refusal.Statement.{statement}
+use Rattle.refusals.proofs.step_refusal.Tie as tie
 
 returns : tie.Need-returns
 returns c = sym (step-over (c .before .args .left) (c .before .args .right) (c .before .args .kind) (c .if1 .taken))

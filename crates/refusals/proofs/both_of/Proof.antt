@@ -1,8 +1,8 @@
--- `reader::form_lines::both_of` meets its contract, case by case.
+-- `refusals::both_of` meets its contract, case by case.
 use mathlib.Core.Path.{ap, sym}
 use Rattle.scope.specs.Form.{both}
-use Rattle.reader.proofs.form_lines.both_of.Statement.{statement}
-use Rattle.reader.proofs.form_lines.both_of.Tie as tie
+use Rattle.refusals.proofs.both_of.Statement.{statement}
+use Rattle.refusals.proofs.both_of.Tie as tie
 
 returns : tie.Need-returns
 unfolding both

@@ -1,4 +1,4 @@
--- The refusals of a row, kind by kind.
+-- The refusals of a row, kind by kind: what each kind demands of its operands, and that a row that passes has small numbers.
 use Prim.Native.Nat.{ℕ, zero, suc, _≤_, _<_}
 use native.Mathlib.Omega.{arith}
 use mathlib.Core.Path.{_≡_, refl, ap, sym, _∙_}
@@ -6,14 +6,22 @@ use mathlib.Core.Bool.{Bool, true, false}
 use lib.Dec.{ltb, leb, eqb}
 use borrow.Author.Tests.{le-ltb, ltb-true, ltb-false, leb-true, eqb-true, eqb-false}
 use Rattle.scope.specs.Form.{both}
+use Rattle.scope.specs.Request.{Row}
 use Rattle.scope.specs.Kinds.{kindIn, formKinds, stepKinds}
 use Rattle.scope.specs.Refusals.{demand, inRange, isEarlier, pass, restZero, rowRefusal, stepRefusal}
-use Rattle.reader.specs.Sections.{row}
+
+abbrev pub row : ℕ → ℕ → ℕ → Row
+row k l r = record { kind = k; left = l; right = r }
 
 pub both-true : (b : Bool) → both b true ≡ b
 unfolding both
 both-true true = refl
 both-true false = refl
+
+pub demand-both : (a b : Bool) (k next : ℕ) → demand (both a b) k next ≡ demand a k (demand b k next)
+unfolding demand both
+demand-both true b k next = refl
+demand-both false b k next = refl
 
 -- Three demands in a row: 3, 3 and 4.
 abbrev pub demands : Bool → Bool → Bool → ℕ

@@ -1,8 +1,8 @@
--- `reader::form_lines::refusal_of` meets its contract: the three demands in their order.
+-- `refusals::refusal_of` meets its contract: the three demands in their order.
 use Rattle.scope.specs.Refusals.{demand}
 use borrow.Author.Tests.{not-true, not-false}
-use Rattle.reader.proofs.form_lines.refusal_of.Statement.{statement}
-use Rattle.reader.proofs.form_lines.refusal_of.Tie as tie
+use Rattle.refusals.proofs.refusal_of.Statement.{statement}
+use Rattle.refusals.proofs.refusal_of.Tie as tie
 
 returns : tie.Need-returns
 unfolding demand
