@@ -13,7 +13,7 @@ use Rattle.scope.specs.Line.{Line, Value, val, out, Read, ok, bad, Reader, Cut,
 use Rattle.scope.specs.Reader.{refused, requestLines, ended, readRequest}
 use Rattle.scope.specs.Tables.{hasRoom}
 use Rattle.scope.specs.Calls.{reading}
-use Rattle.trip.specs.Tests.{never}
+use Rattle.scope.specs.Tests.{never}
 
 pub record Firm {A : Type 0} (m : Reader A) : Type 0 where
   pub firm : (s : List ℕ) (k i : ℕ) → m s ≡ bad k i → 0 < k

@@ -16,7 +16,7 @@ use Rattle.granted.specs.Reasons.{Settled, grants, breaks}
 use Rattle.granted.specs.Granted.{granted}
 use Rattle.granted.specs.FirstBreak.{settled, break-range}
 use Rattle.sound.specs.Rows.{request-sound}
-use Rattle.trip.specs.Tests.{never}
+use Rattle.scope.specs.Tests.{never}
 use Rattle.trip.specs.File.{Unrefused}
 use Rattle.trip.specs.Trip.{checked-fine, unmet}
 use Rattle.demands.specs.InRange.{rows-in}

@@ -10,6 +10,7 @@ use lib.Pow.{pow-pos, pow-lt, pow-add, shl-shr}
 use native.Mathlib.Nat.{div-eq-of-lt, div-self, mul-mod-left, mod-eq-of-lt, one-mul, pow-suc, eq-or-lt-of-le}
 use borrow.Author.Tests.{lt-ltb, le-ltb, ltb-true, eq-eqb, eqb-true, eqb-false}
 use Rattle.scope.specs.Form.{both}
+use Rattle.scope.specs.Tests.{both-true}
 use Rattle.facts.specs.Fill.{below-or-past}
 
 -- The row, or the row of no bits.
@@ -28,11 +29,6 @@ oneIn w i = when (ltb i w) (2 ^ i)
 -- The bit itself.
 pub record Bit (row i : ℕ) : Type 0 where
   pub on : row / 2 ^ i % 2 ≡ 1
-
-both-true : (s t : Bool) → both s t ≡ true → (s ≡ true) × (t ≡ true)
-unfolding both
-both-true true t p = (refl, p)
-both-true false t p = let z : _≡_ {A = ℕ} 0 1 = cc in absurd (omega arith)
 
 pub bit-on : (w row i : ℕ) → bitIn w row i ≡ true → (i < w) × Bit row i
 unfolding bitIn

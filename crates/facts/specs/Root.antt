@@ -6,6 +6,7 @@ use mathlib.Core.List.{List, []}
 use native.Mathlib.Omega.{arith}
 use lib.ListN.{length, getD, set, replicate, length-set, length-replicate, getD-replicate}
 use lib.Seq.{getD-set-same, getD-set-other}
+use Rattle.scope.specs.Tests.{never}
 use Rattle.scope.specs.Facts.{Fact, le, by, sf, Rules, Closed, rule1, rule7, Among, here, there, least}
 use Rattle.facts.specs.Fill.{fill, length-fill, fill-before, fill-at}
 use Rattle.facts.specs.Rows.{worldsMax, principalsMax, rowsMax, leAt, upAt, byAt, sfAt, bitOf, oneBit, told, withRoot, rootRows}
@@ -18,9 +19,9 @@ Start k (le u v) = (u ≡ 0) × (v ≡ 0)
 Start k (by a u v) = ⊥
 Start k (sf u a b) = (u ≡ 0) × (a ≡ b) × (a < k)
 
-never : {fs : List Fact} {f : Fact} → Among fs f → fs ≡ [] → ⊥
-never here e = let z : _≡_ {A = ℕ} 0 1 = cc in omega arith
-never (there p) e = let z : _≡_ {A = ℕ} 0 1 = cc in omega arith
+none-among : {fs : List Fact} {f : Fact} → Among fs f → fs ≡ [] → ⊥
+none-among here e = never cc
+none-among (there p) e = never cc
 
 start-closed : (k : ℕ) → Rules 1 k (Start k)
 start-closed k =
@@ -37,7 +38,7 @@ start-closed k =
     }
 
 follows-start : (k : ℕ) (f : Fact) → Closed 1 k (Among []) f → Start k f
-follows-start k f c = least {H = Start k} (start-closed k) (λ g p. absurd (never p refl)) c
+follows-start k f c = least {H = Start k} (start-closed k) (λ g p. absurd (none-among p refl)) c
 
 start-follows : (k : ℕ) (f : Fact) → Start k f → Closed 1 k (Among []) f
 start-follows k (le u v) p = let h : 0 < 1 = omega arith in rw (p .0, p .1) (rule7 h)
@@ -127,7 +128,7 @@ module _ (k : ℕ) (few : k ≤ principalsMax) (z : List ℕ) (size : length z �
   way-told x v w =
       let h : v < 1 = way-to w in
       let g : 0 < worldsMax = omega arith in
-      let e : x ≡ 0 = omega (arith, way-from {k = k} (λ f. proper {base = Among []} (λ q p. absurd (never p refl))) w) in
+      let e : x ≡ 0 = omega (arith, way-from {k = k} (λ f. proper {base = Among []} (λ q p. absurd (none-among p refl))) w) in
       rw (row-up v h, e) (told-self worldsMax 0 g)
 
   kept-zeros : Kept 1 k [] (withRoot z)
@@ -138,7 +139,7 @@ module _ (k : ℕ) (few : k ≤ principalsMax) (z : List ℕ) (size : length z �
         worlds = omega arith;
         principals = few;
         size = length-fill oneBit (sfAt 0) principalsMax first ∙ first-length;
-        made = λ f p. absurd (never p refl);
+        made = λ f p. absurd (none-among p refl);
         right = λ f h p. start-follows k f (told-start f h p);
         whole = λ f c. start-told f (follows-start k f c);
         ways-right = told-way;

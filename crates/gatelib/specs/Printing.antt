@@ -19,7 +19,7 @@ use Rattle.reader.specs.declared.Reading.the-variants as Reading
 use Rattle.reader.specs.Answers.{countsOf, readingOf}
 use Rattle.judge.specs.declared.Answer.{Answer}
 use Rattle.judge.specs.Answers.{answerOf}
-use Rattle.trip.specs.Tests.{never}
+use Rattle.scope.specs.Tests.{never}
 use Rattle.demands.specs.Gate.{gateReads, gate-judges, prints-gate, unread}
 use Rattle.gatelib.specs.declared.Printed.{Printed}
 

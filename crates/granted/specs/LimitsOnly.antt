@@ -9,6 +9,7 @@ use mathlib.Core.Bool.{true}
 use mathlib.Core.List.{List, [], _∷_, _++_}
 use lib.ListN.{length}
 use native.Mathlib.Omega.{arith}
+use Rattle.scope.specs.Tests.{never}
 use Rattle.scope.specs.Answer.{Answer, answer}
 use Rattle.scope.specs.Derivation.{Rule, Derives, DerivesAll, step, none, first, Derivation}
 use Rattle.scope.specs.Room.{free}
@@ -46,8 +47,7 @@ breaks-free : {os : List Obligation} {xs : List Step} {p : ℕ} → Breaks free 
 breaks-free (refused d r) = let h = in-range r in omega arith
 breaks-free (too-much {waiting} {new} d r t) =
     let e = is-free (length waiting) new in
-    let z : _≡_ {A = ℕ} 0 1 = cc in
-    omega arith
+    never cc
 
 -- Of the answer a within the room, and the answer b without limits.
 pub data Limited (room : Room) (i : ℕ) (os : List Obligation) (xs : List Step) (a b : Answer) : Type 0 where

@@ -12,6 +12,7 @@ use lib.ListN.{getElem?}
 use lib.Dec.{eqb, ltb}
 use native.Mathlib.Omega.{arith}
 use borrow.Author.Tests.{lt-ltb, eq-eqb}
+use Rattle.scope.specs.Tests.{never}
 use Rattle.scope.specs.Form.{isSf, isPushed, negate}
 use Rattle.scope.specs.Facts.{Fact, le, by, sf}
 use Rattle.scope.specs.Agree.{agree-full}
@@ -28,9 +29,9 @@ use Rattle.granted.specs.Fitting.{Fitting, fit, unfit, fits-or-seven}
 pub rule-named : {o : Obligation} {x : Step} {os : List Obligation} → Unnamed o x → Rule o x os → ⊥
 rule-named (no-world h) (by-to-imp i j) = omega arith
 rule-named (no-world h) (by-to-says i j) = omega arith
-rule-named (no-clause e) (by-use d n) = let z : _≡_ {A = ℕ} 0 1 = cc in omega arith
+rule-named (no-clause e) (by-use d n) = never cc
 rule-named (sf-line {l} e m) (by-use {l = k} d n) =
-    let same : l ≡ k = cc in let z : _≡_ {A = ℕ} 0 1 = cc in omega arith
+    let same : l ≡ k = cc in never cc
 
 -- and has its facts, at the same atom.
 pub rule-backed : {o : Obligation} {x : Step} {os : List Obligation} → Unbacked o x → Rule o x os → ⊥
@@ -57,17 +58,17 @@ told-onto : {o : Obligation} {x : Step} {m : Move} {os : List Obligation} → To
 told-onto {o} {x} {os} (ruled {os = new} r) e =
     let same : new ≡ os = cc in
     subst (λ (l : List Obligation). Rule o x l) same r
-told-onto (barred r) e = let z : _≡_ {A = ℕ} 0 1 = cc in absurd (omega arith)
+told-onto (barred r) e = never cc
 
 told-refuse : {o : Obligation} {x : Step} {m : Move} {k : ℕ} → Told o x m → m ≡ refuse k → Refuses o x k
-told-refuse (ruled r) e = let z : _≡_ {A = ℕ} 0 1 = cc in absurd (omega arith)
+told-refuse (ruled r) e = never cc
 told-refuse {o} {x} {k} (barred {k = j} r) e =
     let same : j ≡ k = cc in
     subst (λ (n : ℕ). Refuses o x n) same r
 
 -- A step that fits is never refused with 7.
 not-seven : {o : Obligation} {x : Step} {m : Move} → Judged o x m → m ≡ refuse 7 → ⊥
-not-seven (goes r) e = let z : _≡_ {A = ℕ} 0 1 = cc in omega arith
+not-seven (goes r) e = never cc
 not-seven (eight u) e = let z : _≡_ {A = ℕ} 8 7 = cc in omega arith
 not-seven (nine n b) e = let z : _≡_ {A = ℕ} 9 7 = cc in omega arith
 
@@ -78,7 +79,7 @@ told-fit f (nine n b) = barred (unbacked f n b)
 
 fitting-onto : {o : Obligation} {x : Step} {m : Move} {os : List Obligation} → Fitting o x m → m ≡ onto os → Fits o x
 fitting-onto (fit f) e = f
-fitting-onto unfit e = let z : _≡_ {A = ℕ} 0 1 = cc in absurd (omega arith)
+fitting-onto unfit e = never cc
 
 has-full : (s : Sequent) (f : Fact) → Has s f → has s f ≡ true
 unfolding has

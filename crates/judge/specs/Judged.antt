@@ -12,7 +12,7 @@ use Rattle.tables.specs.Met.{checkedOf}
 use Rattle.machine.specs.declared.Walked.{Walked}
 use Rattle.machine.specs.declared.Walked.the-variants as walked
 use Rattle.machine.specs.Machine.{ran}
-use Rattle.trip.specs.Tests.{never}
+use Rattle.scope.specs.Tests.{never}
 use Rattle.trip.specs.Trip.{unmet}
 use Rattle.walks.specs.Ran.{walkedAnswer}
 use Rattle.walks.specs.Simulation.{ran-walks}

@@ -6,22 +6,13 @@ use mathlib.Core.Bool.{Bool, true, false}
 use lib.Dec.{ltb, leb, eqb}
 use borrow.Author.Tests.{le-ltb, ltb-true, ltb-false, leb-true, eqb-true, eqb-false}
 use Rattle.scope.specs.Form.{both}
+use Rattle.scope.specs.Tests.{both-true, both-yes}
 use Rattle.scope.specs.Request.{Row}
 use Rattle.scope.specs.Kinds.{kindIn, formKinds, stepKinds}
 use Rattle.scope.specs.Refusals.{demand, inRange, isEarlier, pass, restZero, rowRefusal, stepRefusal}
 
 abbrev pub row : ℕ → ℕ → ℕ → Row
 row k l r = record { kind = k; left = l; right = r }
-
-pub both-true : (b : Bool) → both b true ≡ b
-unfolding both
-both-true true = refl
-both-true false = refl
-
-pub demand-both : (a b : Bool) (k next : ℕ) → demand (both a b) k next ≡ demand a k (demand b k next)
-unfolding demand both
-demand-both true b k next = refl
-demand-both false b k next = refl
 
 -- Three demands in a row: 3, 3 and 4.
 abbrev pub demands : Bool → Bool → Bool → ℕ
@@ -39,51 +30,41 @@ demands-met true true false e = absurd (omega arith)
 demands-met true false c e = absurd (omega arith)
 demands-met false b c e = absurd (omega arith)
 
-both-left : (a b : Bool) → both a b ≡ true → a ≡ true
-unfolding both
-both-left true b e = refl
-both-left false b e = e
-
-both-right : (a b : Bool) → both a b ≡ true → b ≡ true
-unfolding both
-both-right true b e = e
-both-right false b e = let z : _≡_ {A = ℕ} 0 1 = cc in absurd (omega arith)
-
 module _ (principals atoms i l r : ℕ) where
   abbrev formRefused : ℕ → ℕ
   formRefused k = rowRefusal formKinds principals atoms i (row k l r)
 
   pub form-0 : formRefused 0 ≡ demands (eqb r 0) (ltb l atoms) true
   unfolding rowRefusal formKinds kindIn pass restZero inRange isEarlier demand both
-  form-0 = simp both-true
+  form-0 = simp both-yes
 
   pub form-1 : formRefused 1 ≡ demands (both (eqb l 0) (eqb r 0)) true true
   unfolding rowRefusal formKinds kindIn pass restZero inRange isEarlier demand both
-  form-1 = simp both-true
+  form-1 = simp both-yes
 
   pub form-2 : formRefused 2 ≡ demands (both (eqb l 0) (eqb r 0)) true true
   unfolding rowRefusal formKinds kindIn pass restZero inRange isEarlier demand both
-  form-2 = simp both-true
+  form-2 = simp both-yes
 
   pub form-3 : formRefused 3 ≡ demands true true (both (ltb l i) (ltb r i))
   unfolding rowRefusal formKinds kindIn pass restZero inRange isEarlier demand both
-  form-3 = simp both-true
+  form-3 = simp both-yes
 
   pub form-4 : formRefused 4 ≡ demands true true (both (ltb l i) (ltb r i))
   unfolding rowRefusal formKinds kindIn pass restZero inRange isEarlier demand both
-  form-4 = simp both-true
+  form-4 = simp both-yes
 
   pub form-5 : formRefused 5 ≡ demands true true (both (ltb l i) (ltb r i))
   unfolding rowRefusal formKinds kindIn pass restZero inRange isEarlier demand both
-  form-5 = simp both-true
+  form-5 = simp both-yes
 
   pub form-6 : formRefused 6 ≡ demands true (ltb l principals) (ltb r i)
   unfolding rowRefusal formKinds kindIn pass restZero inRange isEarlier demand both
-  form-6 = simp both-true
+  form-6 = simp both-yes
 
   pub form-7 : formRefused 7 ≡ demands true (both (ltb l principals) (ltb r principals)) true
   unfolding rowRefusal formKinds kindIn pass restZero inRange isEarlier demand both
-  form-7 = simp both-true
+  form-7 = simp both-yes
 
   -- An unknown kind.
   pub form-other : (k : ℕ) → (k ≡ 0 → ⊥) → (k ≡ 1 → ⊥) → (k ≡ 2 → ⊥) → (k ≡ 3 → ⊥) → (k ≡ 4 → ⊥) → (k ≡ 5 → ⊥) → (k ≡ 6 → ⊥) → (k ≡ 7 → ⊥)
@@ -115,28 +96,28 @@ module _ (principals atoms i l r : ℕ) where
         record { kinds = omega arith; lefts = omega arith; rights = omega arith }
     form-small (suc zero) e =
         let m = demands-met (both (eqb l 0) (eqb r 0)) true true (sym form-1 ∙ e) in
-        let x = eqb-true l 0 (both-left (eqb l 0) (eqb r 0) (m .zeros)) in
-        let y = eqb-true r 0 (both-right (eqb l 0) (eqb r 0) (m .zeros)) in
+        let x = eqb-true l 0 (both-true (eqb l 0) (eqb r 0) (m .zeros) .0) in
+        let y = eqb-true r 0 (both-true (eqb l 0) (eqb r 0) (m .zeros) .1) in
         record { kinds = omega arith; lefts = omega arith; rights = omega arith }
     form-small (suc (suc zero)) e =
         let m = demands-met (both (eqb l 0) (eqb r 0)) true true (sym form-2 ∙ e) in
-        let x = eqb-true l 0 (both-left (eqb l 0) (eqb r 0) (m .zeros)) in
-        let y = eqb-true r 0 (both-right (eqb l 0) (eqb r 0) (m .zeros)) in
+        let x = eqb-true l 0 (both-true (eqb l 0) (eqb r 0) (m .zeros) .0) in
+        let y = eqb-true r 0 (both-true (eqb l 0) (eqb r 0) (m .zeros) .1) in
         record { kinds = omega arith; lefts = omega arith; rights = omega arith }
     form-small (suc (suc (suc zero))) e =
         let m = demands-met true true (both (ltb l i) (ltb r i)) (sym form-3 ∙ e) in
-        let x = ltb-true l i (both-left (ltb l i) (ltb r i) (m .before)) in
-        let y = ltb-true r i (both-right (ltb l i) (ltb r i) (m .before)) in
+        let x = ltb-true l i (both-true (ltb l i) (ltb r i) (m .before) .0) in
+        let y = ltb-true r i (both-true (ltb l i) (ltb r i) (m .before) .1) in
         record { kinds = omega arith; lefts = omega arith; rights = omega arith }
     form-small (suc (suc (suc (suc zero)))) e =
         let m = demands-met true true (both (ltb l i) (ltb r i)) (sym form-4 ∙ e) in
-        let x = ltb-true l i (both-left (ltb l i) (ltb r i) (m .before)) in
-        let y = ltb-true r i (both-right (ltb l i) (ltb r i) (m .before)) in
+        let x = ltb-true l i (both-true (ltb l i) (ltb r i) (m .before) .0) in
+        let y = ltb-true r i (both-true (ltb l i) (ltb r i) (m .before) .1) in
         record { kinds = omega arith; lefts = omega arith; rights = omega arith }
     form-small (suc (suc (suc (suc (suc zero))))) e =
         let m = demands-met true true (both (ltb l i) (ltb r i)) (sym form-5 ∙ e) in
-        let x = ltb-true l i (both-left (ltb l i) (ltb r i) (m .before)) in
-        let y = ltb-true r i (both-right (ltb l i) (ltb r i) (m .before)) in
+        let x = ltb-true l i (both-true (ltb l i) (ltb r i) (m .before) .0) in
+        let y = ltb-true r i (both-true (ltb l i) (ltb r i) (m .before) .1) in
         record { kinds = omega arith; lefts = omega arith; rights = omega arith }
     form-small (suc (suc (suc (suc (suc (suc zero)))))) e =
         let m = demands-met true (ltb l principals) (ltb r i) (sym form-6 ∙ e) in
@@ -145,8 +126,8 @@ module _ (principals atoms i l r : ℕ) where
         record { kinds = omega arith; lefts = omega arith; rights = omega arith }
     form-small (suc (suc (suc (suc (suc (suc (suc zero))))))) e =
         let m = demands-met true (both (ltb l principals) (ltb r principals)) true (sym form-7 ∙ e) in
-        let x = ltb-true l principals (both-left (ltb l principals) (ltb r principals) (m .within)) in
-        let y = ltb-true r principals (both-right (ltb l principals) (ltb r principals) (m .within)) in
+        let x = ltb-true l principals (both-true (ltb l principals) (ltb r principals) (m .within) .0) in
+        let y = ltb-true r principals (both-true (ltb l principals) (ltb r principals) (m .within) .1) in
         record { kinds = omega arith; lefts = omega arith; rights = omega arith }
     form-small (suc (suc (suc (suc (suc (suc (suc (suc k)))))))) e =
         let z : formRefused (suc (suc (suc (suc (suc (suc (suc (suc k)))))))) ≡ 3 = form-other
@@ -160,11 +141,11 @@ module _ (l r : ℕ) where
 
   pub step-7 : stepRefused 7 ≡ demands (eqb r 0) (leb l 65535) true
   unfolding stepRefusal rowRefusal stepKinds kindIn pass restZero inRange isEarlier demand both
-  step-7 = simp both-true
+  step-7 = simp both-yes
 
   pub step-10 : stepRefused 10 ≡ demands (eqb r 0) (leb l 65535) true
   unfolding stepRefusal rowRefusal stepKinds kindIn pass restZero inRange isEarlier demand both
-  step-10 = simp both-true
+  step-10 = simp both-yes
 
   pub step-over : (k : ℕ) → 18 ≤ k → stepRefused k ≡ 3
   unfolding stepRefusal rowRefusal stepKinds demand
@@ -172,24 +153,24 @@ module _ (l r : ℕ) where
 
   pub step-plain : (k : ℕ) → k < 18 → (k ≡ 7 → ⊥) → (k ≡ 10 → ⊥) → stepRefused k ≡ demands (both (eqb l 0) (eqb r 0)) true true
   unfolding stepRefusal rowRefusal stepKinds kindIn pass restZero inRange isEarlier demand both
-  step-plain zero h n m = simp both-true
-  step-plain (suc zero) h n m = simp both-true
-  step-plain (suc (suc zero)) h n m = simp both-true
-  step-plain (suc (suc (suc zero))) h n m = simp both-true
-  step-plain (suc (suc (suc (suc zero)))) h n m = simp both-true
-  step-plain (suc (suc (suc (suc (suc zero))))) h n m = simp both-true
-  step-plain (suc (suc (suc (suc (suc (suc zero)))))) h n m = simp both-true
+  step-plain zero h n m = simp both-yes
+  step-plain (suc zero) h n m = simp both-yes
+  step-plain (suc (suc zero)) h n m = simp both-yes
+  step-plain (suc (suc (suc zero))) h n m = simp both-yes
+  step-plain (suc (suc (suc (suc zero)))) h n m = simp both-yes
+  step-plain (suc (suc (suc (suc (suc zero))))) h n m = simp both-yes
+  step-plain (suc (suc (suc (suc (suc (suc zero)))))) h n m = simp both-yes
   step-plain (suc (suc (suc (suc (suc (suc (suc zero))))))) h n m = absurd (n refl)
-  step-plain (suc (suc (suc (suc (suc (suc (suc (suc zero)))))))) h n m = simp both-true
-  step-plain (suc (suc (suc (suc (suc (suc (suc (suc (suc zero))))))))) h n m = simp both-true
+  step-plain (suc (suc (suc (suc (suc (suc (suc (suc zero)))))))) h n m = simp both-yes
+  step-plain (suc (suc (suc (suc (suc (suc (suc (suc (suc zero))))))))) h n m = simp both-yes
   step-plain (suc (suc (suc (suc (suc (suc (suc (suc (suc (suc zero)))))))))) h n m = absurd (m refl)
-  step-plain (suc (suc (suc (suc (suc (suc (suc (suc (suc (suc (suc zero))))))))))) h n m = simp both-true
-  step-plain (suc (suc (suc (suc (suc (suc (suc (suc (suc (suc (suc (suc zero)))))))))))) h n m = simp both-true
-  step-plain (suc (suc (suc (suc (suc (suc (suc (suc (suc (suc (suc (suc (suc zero))))))))))))) h n m = simp both-true
-  step-plain (suc (suc (suc (suc (suc (suc (suc (suc (suc (suc (suc (suc (suc (suc zero)))))))))))))) h n m = simp both-true
-  step-plain (suc (suc (suc (suc (suc (suc (suc (suc (suc (suc (suc (suc (suc (suc (suc zero))))))))))))))) h n m = simp both-true
-  step-plain (suc (suc (suc (suc (suc (suc (suc (suc (suc (suc (suc (suc (suc (suc (suc (suc zero)))))))))))))))) h n m = simp both-true
-  step-plain (suc (suc (suc (suc (suc (suc (suc (suc (suc (suc (suc (suc (suc (suc (suc (suc (suc zero))))))))))))))))) h n m = simp both-true
+  step-plain (suc (suc (suc (suc (suc (suc (suc (suc (suc (suc (suc zero))))))))))) h n m = simp both-yes
+  step-plain (suc (suc (suc (suc (suc (suc (suc (suc (suc (suc (suc (suc zero)))))))))))) h n m = simp both-yes
+  step-plain (suc (suc (suc (suc (suc (suc (suc (suc (suc (suc (suc (suc (suc zero))))))))))))) h n m = simp both-yes
+  step-plain (suc (suc (suc (suc (suc (suc (suc (suc (suc (suc (suc (suc (suc (suc zero)))))))))))))) h n m = simp both-yes
+  step-plain (suc (suc (suc (suc (suc (suc (suc (suc (suc (suc (suc (suc (suc (suc (suc zero))))))))))))))) h n m = simp both-yes
+  step-plain (suc (suc (suc (suc (suc (suc (suc (suc (suc (suc (suc (suc (suc (suc (suc (suc zero)))))))))))))))) h n m = simp both-yes
+  step-plain (suc (suc (suc (suc (suc (suc (suc (suc (suc (suc (suc (suc (suc (suc (suc (suc (suc zero))))))))))))))))) h n m = simp both-yes
   step-plain (suc (suc (suc (suc (suc (suc (suc (suc (suc (suc (suc (suc (suc (suc (suc (suc (suc (suc k)))))))))))))))))) h n m = absurd
       (omega arith)
 
@@ -218,6 +199,6 @@ module _ (l r : ℕ) where
           carried k (ltb-true k 18 p) (sym step-10 ∙ ap stepRefused (sym f) ∙ e)
       go true false false p q t =
           let m = demands-met (both (eqb l 0) (eqb r 0)) true true (sym (step-plain k (ltb-true k 18 p) (eqb-false k 7 q) (eqb-false k 10 t)) ∙ e) in
-          let x = eqb-true l 0 (both-left (eqb l 0) (eqb r 0) (m .zeros)) in
-          let y = eqb-true r 0 (both-right (eqb l 0) (eqb r 0) (m .zeros)) in
+          let x = eqb-true l 0 (both-true (eqb l 0) (eqb r 0) (m .zeros) .0) in
+          let y = eqb-true r 0 (both-true (eqb l 0) (eqb r 0) (m .zeros) .1) in
           record { kinds = ltb-true k 18 p; lefts = omega arith; rights = y }

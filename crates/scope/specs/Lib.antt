@@ -18,6 +18,7 @@ pub mod Line
 pub mod Kinds
 pub mod Limits
 pub mod Refusals
+pub mod Tests
 pub mod Text
 pub mod Reader
 pub mod Tables

@@ -10,7 +10,8 @@ use Rattle.scope.specs.Form as F
 use Rattle.scope.specs.Form.{Form, both, either}
 use Rattle.scope.specs.Models as M
 use Rattle.scope.specs.Models.{Model, Future, Frame, Sat, SatAll}
-use Rattle.sound.specs.Tests.{implies, every, alltrue, each-true, both-first, both-second, both-true}
+use Rattle.sound.specs.Tests.{implies, every, alltrue, each-true}
+use Rattle.scope.specs.Tests.{never, both-true, both-met}
 use Rattle.sound.specs.Tests.{either-true, true-either, implies-so, so-implies, every-at, at-every}
 
 -- Tests over the worlds, pairs of worlds and triples of worlds of a model.
@@ -120,10 +121,10 @@ pub eval-exact : (m : Model) (w : ℕ) (f : Form) → (eval m w f ≡ true) ↔ 
 unfolding eval Sat
 eval-exact m w (F.atom p) = (λ e. e, λ h. h)
 eval-exact m w F.top = (λ e. tt, λ h. refl)
-eval-exact m w F.bot = (λ e. let z : _≡_ {A = ℕ} 0 1 = cc in omega arith, λ h. absurd h)
+eval-exact m w F.bot = (λ e. never cc, λ h. absurd h)
 eval-exact m w (F.and f g) = (
-  λ e. (eval-exact m w f .0 (both-first _ _ e), eval-exact m w g .0 (both-second _ _ e)),
-  λ h. both-true _ _ (eval-exact m w f .1 (h .0)) (eval-exact m w g .1 (h .1)),
+  λ e. (eval-exact m w f .0 (both-true _ _ e .0), eval-exact m w g .0 (both-true _ _ e .1)),
+  λ h. both-met _ _ (eval-exact m w f .1 (h .0)) (eval-exact m w g .1 (h .1)),
 )
 eval-exact m w (F.or f g) = (
   λ e. ⊎-map (eval-exact m w f .0) (eval-exact m w g .0) (true-either _ _ e),
@@ -141,7 +142,7 @@ eval-exact m w (F.says a f) = (
 eval-exact m w (F.sf a b) = (λ e. e, λ h. h)
 
 pub eval-false : (m : Model) (w : ℕ) (f : Form) → eval m w f ≡ false → Sat m w f → ⊥
-eval-false m w f e h = let d : eval m w f ≡ true = eval-exact m w f .1 h in let z : _≡_ {A = ℕ} 0 1 = cc in omega arith
+eval-false m w f e h = let d : eval m w f ≡ true = eval-exact m w f .1 h in never cc
 
 -- Every formula of a list is true at a world.
 unfoldable pub evalAll : Model → ℕ → List Form → Bool
@@ -151,4 +152,4 @@ evalAll m w (f ∷ fs) = both (eval m w f) (evalAll m w fs)
 pub evalAll-true : (m : Model) (w : ℕ) (fs : List Form) → evalAll m w fs ≡ true → SatAll m w fs
 unfolding evalAll SatAll
 evalAll-true m w [] e = tt
-evalAll-true m w (f ∷ fs) e = (eval-exact m w f .0 (both-first _ _ e), evalAll-true m w fs (both-second _ _ e))
+evalAll-true m w (f ∷ fs) e = (eval-exact m w f .0 (both-true _ _ e .0), evalAll-true m w fs (both-true _ _ e .1))

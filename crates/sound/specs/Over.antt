@@ -5,6 +5,7 @@ use mathlib.Core.List.{List, [], _∷_, _++_}
 use mathlib.Core.Option.{some}
 use native.Mathlib.Omega.{arith}
 use lib.ListN.{getElem?}
+use Rattle.scope.specs.Tests.{never}
 use Rattle.scope.specs.Form.{Form, atom, top, bot, and, or, imp, says, sf}
 
 unfoldable pub Over : ℕ → ℕ → Form → Type 0
@@ -32,6 +33,6 @@ module _ {A : Type 0} where
   all-append P (x ∷ xs) ys h i = (h .0, all-append P xs ys (h .1) i)
 
   pub all-place : (P : A → Type 0) (xs : List A) (i : ℕ) (x : A) → getElem? xs i ≡ some x → All P xs → P x
-  all-place P [] i x e h = let z : _≡_ {A = ℕ} 0 1 = cc in absurd (omega arith)
+  all-place P [] i x e h = never cc
   all-place P (y ∷ xs) zero x e h = let z : y ≡ x = cc in rw z at (h .0)
   all-place P (y ∷ xs) (suc i) x e h = all-place P xs i x e (h .1)

@@ -7,6 +7,7 @@ use mathlib.Core.List.{List, [], _∷_}
 use native.Mathlib.Omega.{arith}
 use lib.Dec.{ltb}
 use borrow.Author.Tests.{ltb-true}
+use Rattle.scope.specs.Tests.{never}
 use Rattle.scope.specs.Form.{Form, negate}
 use Rattle.scope.specs.Obligation.{Obligation, Step, start}
 use Rattle.scope.specs.Derivation.{Derivation}
@@ -24,7 +25,7 @@ refutes k n m x policy goal =
 
 negate-true : (b : Bool) → negate b ≡ true → b ≡ false
 unfolding negate
-negate-true true e = let z : _≡_ {A = ℕ} 0 1 = cc in absurd (omega arith)
+negate-true true e = never cc
 negate-true false e = refl
 
 -- A frame over more principals is one over fewer.

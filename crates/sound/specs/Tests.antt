@@ -7,6 +7,7 @@ use mathlib.Core.Logic.{_⊎_, inl, inr, ⊎-elim}
 use native.Mathlib.Omega.{arith}
 use native.Mathlib.Nat.{eq-or-lt-of-le}
 use Rattle.scope.specs.Form.{both, either}
+use Rattle.scope.specs.Tests.{never, both-true, both-met}
 use Rattle.sound.specs.Over.{All}
 
 -- Tests that stay shut, so that what they test can be read off them.
@@ -20,25 +21,10 @@ unfolding both
 every zero t = true
 every (suc n) t = both (t n) (every n t)
 
-pub both-first : (a b : Bool) → both a b ≡ true → a ≡ true
-unfolding both
-both-first true b e = refl
-both-first false b e = e
-
-pub both-second : (a b : Bool) → both a b ≡ true → b ≡ true
-unfolding both
-both-second true b e = e
-both-second false b e = let z : _≡_ {A = ℕ} 0 1 = cc in absurd (omega arith)
-
-pub both-true : (a b : Bool) → a ≡ true → b ≡ true → both a b ≡ true
-unfolding both
-both-true true b d e = e
-both-true false b d e = d
-
 pub either-true : (a b : Bool) → (a ≡ true) ⊎ (b ≡ true) → either a b ≡ true
 unfolding either
 either-true true b h = refl
-either-true false b h = ⊎-elim (λ e. let z : _≡_ {A = ℕ} 0 1 = cc in absurd (omega arith)) (λ e. e) h
+either-true false b h = ⊎-elim (λ e. never cc) (λ e. e) h
 
 pub true-either : (a b : Bool) → either a b ≡ true → (a ≡ true) ⊎ (b ≡ true)
 unfolding either
@@ -48,7 +34,7 @@ true-either false b e = inr e
 pub implies-so : (a b : Bool) → implies a b ≡ true → a ≡ true → b ≡ true
 unfolding implies
 implies-so true b e d = e
-implies-so false b e d = let z : _≡_ {A = ℕ} 0 1 = cc in absurd (omega arith)
+implies-so false b e d = never cc
 
 pub so-implies : (a b : Bool) → (a ≡ true → b ≡ true) → implies a b ≡ true
 unfolding implies
@@ -60,12 +46,12 @@ unfolding every
 every-at zero t e x i = absurd (omega arith)
 every-at (suc n) t e x i =
     let l : x ≤ n = omega arith in
-    ⊎-elim (λ q. rw q (both-first (t n) (every n t) e)) (every-at n t (both-second (t n) (every n t) e) x) (eq-or-lt-of-le l)
+    ⊎-elim (λ q. rw q (both-true (t n) (every n t) e .0)) (every-at n t (both-true (t n) (every n t) e .1) x) (eq-or-lt-of-le l)
 
 pub at-every : (n : ℕ) (t : ℕ → Bool) → ((x : ℕ) → x < n → t x ≡ true) → every n t ≡ true
 unfolding every
 at-every zero t h = refl
-at-every (suc n) t h = both-true (t n) (every n t) (h n (omega arith)) (at-every n t (λ x i. h x (omega arith)))
+at-every (suc n) t h = both-met (t n) (every n t) (h n (omega arith)) (at-every n t (λ x i. h x (omega arith)))
 
 -- Each of a list of tests holds.
 unfoldable pub alltrue : List Bool → Bool
@@ -76,4 +62,4 @@ alltrue (b ∷ bs) = both b (alltrue bs)
 pub each-true : (bs : List Bool) → alltrue bs ≡ true → All (λ (b : Bool). b ≡ true) bs
 unfolding alltrue
 each-true [] e = tt
-each-true (b ∷ bs) e = (both-first b (alltrue bs) e, each-true bs (both-second b (alltrue bs) e))
+each-true (b ∷ bs) e = (both-true b (alltrue bs) e .0, each-true bs (both-true b (alltrue bs) e .1))

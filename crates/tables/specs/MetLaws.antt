@@ -6,6 +6,7 @@ use mathlib.Core.Path.{_≡_, refl, ap, sym, _∙_}
 use mathlib.Core.List.{List, [], _∷_, _++_}
 use lib.ListN.{length, getD, take, drop}
 use lib.Seq.{take-suc, split-at, take-length}
+use Rattle.scope.specs.Tests.{never}
 use Rattle.scope.specs.Answer.{Answer, answer}
 use Rattle.scope.specs.Checked.{firstMet}
 use Rattle.counts.specs.declared.Refusal.{Refusal}
@@ -22,11 +23,11 @@ pub met-fine : (a b : List Answer) → met a ≡ Fine → met (a ++ b) ≡ met b
 unfolding met firstMet checkedOf
 met-fine [] b e = refl
 met-fine (answer zero p ∷ a) b e = met-fine a b e
-met-fine (answer (suc k) p ∷ a) b e = let z : _≡_ {A = ℕ} 0 1 = cc in absurd (omega arith)
+met-fine (answer (suc k) p ∷ a) b e = never cc
 
 pub met-refused : (a b : List Answer) (r : Refusal) → met a ≡ Refused r → met (a ++ b) ≡ Refused r
 unfolding met firstMet checkedOf
-met-refused [] b r e = let z : _≡_ {A = ℕ} 0 1 = cc in absurd (omega arith)
+met-refused [] b r e = never cc
 met-refused (answer zero p ∷ a) b r e = met-refused a b r e
 met-refused (answer (suc k) p ∷ a) b r e = e
 
@@ -54,7 +55,7 @@ met-back a b e = sym (met-fine a b (met-front a b e)) ∙ e
 pub fine-none : (k place : ℕ) → checkedOf (answer k place) ≡ Fine → k ≡ 0
 unfolding checkedOf
 fine-none zero place e = refl
-fine-none (suc k) place e = let z : _≡_ {A = ℕ} 0 1 = cc in absurd (omega arith)
+fine-none (suc k) place e = never cc
 
 pub one-stop : (x : Answer) (b : List Answer) (g : Checked) (r : Refusal) → g ≡ checkedOf x → g ≡ Refused r → g ≡ met (x ∷ b)
 one-stop x b g r e f = met-stop (x ∷ []) b g r (e ∙ sym (met-one x)) f

@@ -6,7 +6,7 @@ use lib.ListN.{length}
 use Rattle.scope.specs.Answer.{Answer, answer}
 use Rattle.scope.specs.Request.{Request}
 use Rattle.scope.specs.Checked.{firstMet, eachOf, lineAnswers}
-use Rattle.trip.specs.Tests.{never}
+use Rattle.scope.specs.Tests.{never}
 use Rattle.trip.specs.Several.{Two, two, Each, none-left, one-more}
 use Rattle.trip.specs.File.{Unrefused}
 

@@ -11,7 +11,7 @@ use Rattle.scope.specs.Form.{both}
 use Rattle.scope.specs.Number.{digit, numeral}
 use Rattle.scope.specs.Line.{Cut, parts, uncut, cut, cutAfter, strip}
 use Rattle.scope.specs.Kinds.{ontoFirst, items, spaced}
-use Rattle.trip.specs.Tests.{never, both-true, both-met, taken}
+use Rattle.scope.specs.Tests.{never, both-true, both-met, taken}
 
 -- No byte b stands in a text.
 unfoldable pub free : ℕ → List ℕ → Bool

@@ -11,7 +11,7 @@ use lib.ListN.{length}
 use borrow.Author.Tests.{leb-true, ltb-true, ltb-false, eqb-false, not-true, lt-ltb, le-ltb, le-leb, ne-eqb}
 use Rattle.scope.specs.Form.{both}
 use Rattle.scope.specs.Number.{isDigit, digits, leadingZero, number, digit, numeral}
-use Rattle.trip.specs.Tests.{both-true, both-met, taken}
+use Rattle.scope.specs.Tests.{both-true, both-met, taken}
 
 pub record Digit (b : ℕ) : Type 0 where
   pub low : 48 ≤ b

@@ -6,7 +6,7 @@ use mathlib.Core.List.{List, [], _∷_, _++_, append-assoc}
 use mathlib.Core.Bool.{true}
 use mathlib.Core.Option.{Option, none, some}
 use Rattle.scope.specs.Line.{Shape, Line, Value, val, out, ok, Reader, Cut, parts, uncut, cut, strip, settled, judged, valued, placed, lineOf, line, lineText}
-use Rattle.trip.specs.Tests.{never}
+use Rattle.scope.specs.Tests.{never}
 use Rattle.trip.specs.Cuts.{free, free-append, cut-there, cut-back, strip-there, strip-back}
 
 -- Of the shape of a value: what is fine to write.

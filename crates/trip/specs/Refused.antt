@@ -20,7 +20,7 @@ use Rattle.scope.specs.Reader.{refused, formItem, clauseItem, stepItem, request
 use Rattle.scope.specs.Tables.{Lent, hasRoom, requestOf}
 use Rattle.scope.specs.Checked.{firstMet, eachOf, lineAnswers, pastZero, checked}
 use Rattle.scope.specs.Calls.{written, unwritten, writtenIf, writing}
-use Rattle.trip.specs.Tests.{never, demand-passes}
+use Rattle.scope.specs.Tests.{never, demand-passes}
 use Rattle.trip.specs.Cuts.{free, free-append, cut-there, strip-there}
 use Rattle.trip.specs.Words.{form-kinds-neat, step-kinds-neat}
 use Rattle.trip.specs.Rows as Rows

@@ -7,7 +7,7 @@ use Rattle.scope.specs.Request.{Request}
 use Rattle.scope.specs.Line.{Read, ok, bad}
 use Rattle.scope.specs.Text.{requestText}
 use Rattle.scope.specs.Reader.{read, requestLines, ended, readRequest}
-use Rattle.trip.specs.Tests.{never}
+use Rattle.scope.specs.Tests.{never}
 use Rattle.trip.specs.File.{Unrefused, request-reads}
 
 pub text-reads : (q : Request) → Unrefused q → readRequest (requestText q) ≡ read q

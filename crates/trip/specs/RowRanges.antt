@@ -12,7 +12,7 @@ use Rattle.scope.specs.Limits.{mostStepNumber}
 use Rattle.scope.specs.Request.{Row}
 use Rattle.scope.specs.Kinds.{Sort, atomNumber, principalNumber, formulaNumber, clauseNumber, worldNumber, Kind, kindIn, operandsOf}
 use Rattle.scope.specs.Refusals.{inRange, isEarlier, pass, restZero, rowRefusal}
-use Rattle.trip.specs.Tests.{both-true, demand-met}
+use Rattle.scope.specs.Tests.{both-true, demand-met}
 
 -- How many numbers of a sort there are for row i.
 abbrev pub countOf : ℕ → ℕ → ℕ → Sort → ℕ

@@ -13,7 +13,7 @@ use Rattle.scope.specs.Request.{Row}
 use Rattle.scope.specs.Number.{number, numeral}
 use Rattle.scope.specs.Kinds.{Sort, Kind, kindIn, items, spaced, kindFrom, ontoNumbers, numbers, rowOf, operandsOf, kindRow, itemsRow, rowIn, rowText}
 use Rattle.scope.specs.Refusals.{restZero}
-use Rattle.trip.specs.Tests.{never, both-true, taken}
+use Rattle.scope.specs.Tests.{never, both-true, taken}
 use Rattle.trip.specs.Numbers.{number-there, number-back}
 use Rattle.trip.specs.Cuts.{free, items-there, items-back, spaced-free, numerals-free}
 use Rattle.trip.specs.Words.{Neat, neat-kind, word-there, word-found}

@@ -5,7 +5,7 @@ use mathlib.Core.List.{List, [], _∷_, _++_, append-assoc, append-nil}
 use native.Mathlib.Omega.{arith}
 use lib.ListN.{length, take, getD, length-append}
 use Rattle.scope.specs.Line.{Line, Read, ok, bad, Reader, line, lineText, after, _>>=_, done, many, manyText, counted, countedText}
-use Rattle.trip.specs.Tests.{never}
+use Rattle.scope.specs.Tests.{never}
 use Rattle.trip.specs.Reads.{Reads}
 
 record After {A B : Type 0} (x : Read A) (next : A → Reader B) (b : B) (rest : List ℕ) : Type 0 where

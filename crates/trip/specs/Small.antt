@@ -12,7 +12,7 @@ use Rattle.scope.specs.Form.{both}
 use Rattle.scope.specs.Request.{Row}
 use Rattle.scope.specs.Kinds.{Sort, atomNumber, principalNumber, formulaNumber, clauseNumber, worldNumber, Kind, kindIn}
 use Rattle.scope.specs.Refusals.{restZero, rowRefusal, countRefusal, clauseRefusal, goalRefusal}
-use Rattle.trip.specs.Tests.{both-true, demand-met}
+use Rattle.scope.specs.Tests.{both-true, demand-met}
 use Rattle.trip.specs.Words.{Neat, neat-kind}
 use Rattle.trip.specs.Rows.{Sayable}
 use Rattle.trip.specs.RowRanges.{countOf, Below, row-passed}

@@ -15,7 +15,7 @@ use Rattle.scope.specs.Reader.{Outcome, read, refused, readRequest}
 use Rattle.scope.specs.Tables.{Lent, hasRoom, requestOf, lentOf}
 use Rattle.scope.specs.Checked.{firstMet, lineAnswers, pastZero, checked}
 use Rattle.scope.specs.Calls.{reading, lentAfter, written, unwritten, writtenIf, writing}
-use Rattle.trip.specs.Tests.{never, demand-met, demand-passes}
+use Rattle.scope.specs.Tests.{never, demand-met, demand-passes}
 use Rattle.trip.specs.File.{Unrefused}
 use Rattle.trip.specs.Requests.{text-reads, read-unrefused, read-text}
 use Rattle.trip.specs.Checks.{nothing-met, met-first, met-apart, met-nothing, passes, passes-all, lines-unrefused, unrefused-lines}

@@ -15,7 +15,7 @@ use Rattle.scope.specs.Obligation.{Lab, Obligation}
 use Rattle.scope.specs.Obligation as O
 use Rattle.scope.specs.Room.{within}
 use Rattle.scope.specs.Walk.{Move, onto, refuse, need, has, onAtom, onTop, onBot, onAnd, onOr, onImp, onSays, onSf, onImpSays, onPushed}
-use Rattle.trip.specs.Tests.{never}
+use Rattle.scope.specs.Tests.{never}
 use Rattle.facts.specs.Rows.{told}
 use Rattle.facts.specs.Kept.{Kept, Aimed}
 use Rattle.moves.specs.declared.Judged.{Judged}

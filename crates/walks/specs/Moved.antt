@@ -10,7 +10,7 @@ use lib.ListN.{length, getD, set, length-set}
 use lib.Seq.{getD-set-same, getD-set-other}
 use Rattle.scope.specs.Facts.{Fact}
 use Rattle.scope.specs.Obligation.{Lab, Sequent, Phase, Obligation, ob}
-use Rattle.trip.specs.Tests.{never}
+use Rattle.scope.specs.Tests.{never}
 use Rattle.facts.specs.Rows.{sfRows, putSf}
 use Rattle.facts.specs.Kept.{Kept, agree-self, kept-back}
 use Rattle.moves.specs.declared.Phase as D

@@ -6,6 +6,7 @@ use mathlib.Core.Path.{_≡_, refl, ap, sym, _∙_}
 use mathlib.Core.List.{List, []}
 use borrow.Author.Tests.{le-leb, lt-leb}
 use lib.ListN.{length, replicate}
+use Rattle.scope.specs.Tests.{never}
 use Rattle.scope.specs.Answer.{Answer, answer, refusalIn, placeIn}
 use Rattle.scope.specs.Text.{requestText}
 use Rattle.scope.specs.Tables.{Lent, requestOf, padded}
@@ -32,7 +33,7 @@ zeros-left len w e = rw e (ap (λ (n : ℕ). replicate n 0) (sym (sub-zero len))
 
 if-refused : (a : Answer) (s : List ℕ) (len : ℕ) (r : Refusal) → checkedOf a ≡ Refused r → writtenIf a s len ≡ unwritten (r .number) (r .place)
 unfolding checkedOf writtenIf
-if-refused (answer zero place) s len r e = let z : _≡_ {A = ℕ} 0 1 = cc in absurd (omega arith)
+if-refused (answer zero place) s len r e = never cc
 if-refused (answer (suc k) place) s len r e =
     let f : record { number = suc k; place = place } ≡ r = cc in
     ap (λ (x : Refusal). unwritten (x .number) (x .place)) f
@@ -40,12 +41,12 @@ if-refused (answer (suc k) place) s len r e =
 if-fits : (a : Answer) (s : List ℕ) (len : ℕ) → checkedOf a ≡ Fine → length s ≤ len → writtenIf a s len ≡ written s
 unfolding checkedOf writtenIf
 if-fits (answer zero place) s len e h = rw (le-leb (length s) len h) refl
-if-fits (answer (suc k) place) s len e h = let z : _≡_ {A = ℕ} 0 1 = cc in absurd (omega arith)
+if-fits (answer (suc k) place) s len e h = never cc
 
 if-short : (a : Answer) (s : List ℕ) (len : ℕ) → checkedOf a ≡ Fine → len < length s → writtenIf a s len ≡ unwritten 14 0
 unfolding checkedOf writtenIf
 if-short (answer zero place) s len e h = rw (lt-leb (length s) len h) refl
-if-short (answer (suc k) place) s len e h = let z : _≡_ {A = ℕ} 0 1 = cc in absurd (omega arith)
+if-short (answer (suc k) place) s len e h = never cc
 
 pub writing-is : (t : Lent) (len : ℕ) → writing t len ≡ writtenIf (checked t) (requestText (requestOf t)) len
 unfolding writing

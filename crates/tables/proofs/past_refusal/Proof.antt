@@ -1,7 +1,7 @@
 -- `tables::past_refusal` meets its contract: the three demands are one demand that all three hold.
 use borrow.Author.Needs.{needs}
 use Rattle.scope.specs.Checked.{pastZero}
-use Rattle.refusals.specs.Rows.{demand-both}
+use Rattle.scope.specs.Tests.{demand-both}
 use Rattle.tables.proofs.past_refusal.Statement.{statement}
 use Rattle.tables.proofs.past_refusal.Tie as tie
 
