@@ -42,8 +42,8 @@ build_library() {
     fi
 }
 
-# Builds the programs of compare/, which link the library.
-build_compare() {
+# Builds the programs of compare/, which link the library, to compare/target/PROFILE.
+build_compare() { # PROFILE
     build_library
-    cargo build --release --quiet --manifest-path "$root/compare/Cargo.toml" --target-dir "$root/compare/target"
+    cargo build --profile "$1" --quiet --manifest-path "$root/compare/Cargo.toml" --target-dir "$root/compare/target"
 }

@@ -50,7 +50,7 @@ fn empty() -> (Vec<u16>, Vec<u16>, Vec<u16>) {
 fn main() {
     let requests: Vec<Request> = heavy::heavy().iter().map(Request::of).collect();
     let small: Vec<Text> = heavy::small(1, SMALL).collect();
-    println!("{:44} {:>24} {:>24} {:>20}", "one call", "library", "oracle", "library / oracle");
+    println!("{:52} {:>24} {:>24} {:>20}", "one call", "library", "oracle", "library / oracle");
     for request in requests.iter().filter(|request| request.name.contains("longest")) {
         let bytes = request.file.len();
         bench_read(&format!("read {} ({bytes} bytes)", request.name), request);
@@ -108,7 +108,7 @@ fn bench(name: &str, mut ours: impl FnMut(), mut theirs: impl FnMut()) {
         [0, SAMPLES / 2, SAMPLES - 1].map(|at| times[at][side])
     });
     println!(
-        "{name:44} {:>24} {:>24} {:>8.2} ({:.2}-{:.2})",
+        "{name:52} {:>24} {:>24} {:>8.2} ({:.2}-{:.2})",
         spread(mine),
         spread(other),
         mine[1] / other[1],

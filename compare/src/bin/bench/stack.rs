@@ -50,12 +50,12 @@ fn deepest(call: &mut (dyn FnMut() + Send)) -> usize {
 }
 
 fn line(name: &str, ours: &mut (dyn FnMut() + Send), theirs: &mut (dyn FnMut() + Send)) {
-    println!("{name:44} {:>18} bytes {:>18} bytes", deepest(ours), deepest(theirs));
+    println!("{name:52} {:>18} bytes {:>18} bytes", deepest(ours), deepest(theirs));
 }
 
 /// The stack of each call, the oracle's heap left out.
 pub fn report(text: &Request, granted: &Request) {
-    println!("\n{:44} {:>24} {:>24}", "stack below the call", "library", "oracle");
+    println!("\n{:52} {:>24} {:>24}", "stack below the call", "library", "oracle");
     let (mut forms, mut clauses, mut steps) = empty();
     let (mut forms2, mut clauses2, mut steps2) = empty();
     line(
