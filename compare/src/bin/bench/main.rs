@@ -99,8 +99,7 @@ fn bench_gate(name: &str, files: &[&[u8]]) {
 
 fn bench(name: &str, mut ours: impl FnMut(), mut theirs: impl FnMut()) {
     let (mine, other) = (calls_for(&mut ours), calls_for(&mut theirs));
-    let mut times: Vec<[f64; 2]> =
-        (0..SAMPLES).map(|_| [time(mine, &mut ours), time(other, &mut theirs)]).collect();
+    let mut times: Vec<[f64; 2]> = (0..SAMPLES).map(|_| [time(mine, &mut ours), time(other, &mut theirs)]).collect();
     let mut ratios: Vec<f64> = times.iter().map(|[mine, other]| mine / other).collect();
     ratios.sort_by(f64::total_cmp);
     let [mine, other] = [0, 1].map(|side| {

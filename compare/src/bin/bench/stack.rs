@@ -58,11 +58,9 @@ pub fn report(text: &Request, granted: &Request) {
     println!("\n{:52} {:>24} {:>24}", "stack below the call", "library", "oracle");
     let (mut forms, mut clauses, mut steps) = empty();
     let (mut forms2, mut clauses2, mut steps2) = empty();
-    line(
-        "read",
-        &mut || _ = black_box(peraduksi::read(&text.file, &mut forms, &mut clauses, &mut steps)),
-        &mut || _ = black_box(oracle::read(&text.file, &mut forms2, &mut clauses2, &mut steps2)),
-    );
+    line("read", &mut || _ = black_box(peraduksi::read(&text.file, &mut forms, &mut clauses, &mut steps)), &mut || {
+        _ = black_box(oracle::read(&text.file, &mut forms2, &mut clauses2, &mut steps2))
+    });
     let (mut one, mut other) = (vec![0; limits::FILE], vec![0; limits::FILE]);
     let (tables, counts) = (text.tables(), text.narrow());
     line(
@@ -76,9 +74,7 @@ pub fn report(text: &Request, granted: &Request) {
         &mut || _ = black_box(peraduksi::judge(counts, tables.forms, tables.clauses, tables.steps)),
         &mut || _ = black_box(oracle::judge(&granted.counts, &tables)),
     );
-    line(
-        "gate",
-        &mut || _ = black_box(peraduksi::gate(&granted.file)),
-        &mut || _ = black_box(oracle::gate(&granted.file)),
-    );
+    line("gate", &mut || _ = black_box(peraduksi::gate(&granted.file)), &mut || {
+        _ = black_box(oracle::gate(&granted.file))
+    });
 }

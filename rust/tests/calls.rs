@@ -1,0 +1,63 @@
+//! Each call once where it grants and once where it refuses, and what it leaves behind.
+
+use peraduksi::{gate, judge, read, write, Counts, Reason, Refusal, FORMS_ROOM, POLICY_ROOM, STEPS_ROOM};
+
+const GRANTED: &[u8] = include_bytes!("../../examples/granted.req");
+const REFUSED: &[u8] = include_bytes!("../../examples/refused.req");
+
+struct Tables {
+    forms: Vec<u16>,
+    policy: Vec<u16>,
+    steps: Vec<u16>,
+}
+
+/// Tables that hold something before the call.
+fn lent() -> Tables {
+    Tables { forms: vec![7; FORMS_ROOM], policy: vec![7; POLICY_ROOM], steps: vec![7; STEPS_ROOM] }
+}
+
+fn read_into(tables: &mut Tables, file: &[u8]) -> Result<Counts, Refusal> {
+    read(file, &mut tables.forms, &mut tables.policy, &mut tables.steps)
+}
+
+#[test]
+fn reads_judges_and_writes_back() {
+    let mut t = lent();
+    let counts = read_into(&mut t, GRANTED).expect("it reads");
+    assert_eq!(counts, Counts { principals: 2, atoms: 1, formulas: 5, lines: 3, goal: 0, steps: 7 });
+    assert_eq!(t.policy[..5], [2, 3, 4, 0, 0]);
+    assert_eq!(judge(counts, &t.forms, &t.policy, &t.steps), Ok(()));
+    let mut out = vec![7; GRANTED.len() + 2];
+    assert_eq!(write(counts, &t.forms, &t.policy, &t.steps, &mut out), Ok(GRANTED.len()));
+    assert_eq!(out, [GRANTED, &[0, 0]].concat());
+    assert_eq!(gate(GRANTED).answer, 0);
+}
+
+#[test]
+fn a_refused_step_has_its_place() {
+    let mut t = lent();
+    let counts = read_into(&mut t, REFUSED).expect("it reads");
+    let refusal = judge(counts, &t.forms, &t.policy, &t.steps).unwrap_err();
+    assert_eq!(refusal, Refusal { reason: Reason::FactAbsent, place: 6 });
+    assert_eq!(refusal.to_string(), "refused with 9 at 6: needed fact absent, or another atom");
+}
+
+#[test]
+fn a_refused_reading_leaves_zeros() {
+    let mut t = lent();
+    let cut = &GRANTED[..GRANTED.len() - 1];
+    assert_eq!(read_into(&mut t, cut), Err(Refusal { reason: Reason::OutOfShape, place: 22 }));
+    assert!([&t.forms, &t.policy, &t.steps].iter().all(|table| table.iter().all(|&entry| entry == 0)));
+}
+
+#[test]
+fn short_tables_and_short_outputs() {
+    let mut t = lent();
+    let counts = read_into(&mut t, GRANTED).expect("it reads");
+    let mut out = vec![7; GRANTED.len() - 1];
+    let short = write(counts, &t.forms, &t.policy, &t.steps, &mut out);
+    assert_eq!(short, Err(Refusal { reason: Reason::OutputTooShort, place: 0 }));
+    assert!(out.iter().all(|&byte| byte == 0));
+    let none = judge(counts, &[], &t.policy, &t.steps);
+    assert_eq!(none, Err(Refusal { reason: Reason::TableTooShort, place: 0 }));
+}
