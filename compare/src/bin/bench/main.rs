@@ -5,7 +5,7 @@
 
 use compare::narrow;
 use oracle::generate::{heavy, Text};
-use oracle::{limits, Counts, ReadAnswer, Tables};
+use oracle::{limits, Counts, ReadAnswer, Tables, Way};
 use std::hint::black_box;
 use std::time::{Duration, Instant};
 
@@ -57,13 +57,20 @@ fn main() {
         bench_write(&format!("write {} ({bytes} bytes)", request.name), request);
     }
     for request in &requests {
-        bench_judge(&format!("judge {} ({} steps)", request.name, request.counts.steps), request);
+        bench_judge(&format!("judge {} ({} steps)", request.name, request.counts.steps), request, Way::Kept);
     }
     for request in &requests {
         bench_gate(&format!("gate {}", request.name), &[&request.file]);
     }
     let files: Vec<&[u8]> = small.iter().map(|text| &text.bytes[..]).collect();
     bench_gate(&format!("gate, {SMALL} small requests"), &files);
+    println!("\nagainst an oracle that closes the facts from nothing at each question");
+    let asks = |request: &&Request| {
+        ["h-asking-31-worlds-16", "h-many-n", "h-many-b"].iter().any(|name| request.name.starts_with(name))
+    };
+    for request in requests.iter().filter(asks) {
+        bench_judge(&format!("judge {}", request.name), request, Way::Afresh);
+    }
     stack::report(&requests[0], &requests[1]);
 }
 
@@ -84,10 +91,10 @@ fn bench_write(name: &str, request: &Request) {
     bench(name, ours, theirs);
 }
 
-fn bench_judge(name: &str, request: &Request) {
+fn bench_judge(name: &str, request: &Request, way: Way) {
     let (tables, counts) = (request.tables(), request.narrow());
     let ours = || _ = black_box(peraduksi::judge(black_box(counts), tables.forms, tables.clauses, tables.steps));
-    let theirs = || _ = black_box(oracle::judge(black_box(&request.counts), &tables));
+    let theirs = || _ = black_box(oracle::judge_by(way, black_box(&request.counts), &tables));
     bench(name, ours, theirs);
 }
 
