@@ -1,0 +1,1 @@
+// The theorems about policy lines that no step uses: nothing here runs.
