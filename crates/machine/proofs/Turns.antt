@@ -7,7 +7,7 @@ use native.Mathlib.Omega.{arith}
 use lib.ListN.{getD, set, length, replicate}
 use lib.Dec.{eqb}
 use borrow.Author.Tests.{eq-eqb, ne-eqb}
-use Rattle.facts.specs.Rows.{noted, sfRows, rootRows}
+use Rattle.facts.specs.Rows.{noted, rootRows}
 use Rattle.moves.specs.declared.Step.{Step}
 use Rattle.moves.specs.declared.Step.the-variants as step
 use Rattle.moves.specs.declared.Move.{Move}
@@ -20,11 +20,11 @@ use Rattle.moves.specs.Tests.{pick-true, pick-false}
 use Rattle.machine.specs.declared.Obligation.{Obligation}
 use Rattle.machine.specs.declared.Change.{Change}
 use Rattle.machine.specs.declared.Walked.{Walked}
-use Rattle.machine.specs.declared.Walked.the-variants.{Granted}
-use Rattle.machine.specs.Change.{topChunk, goalIn, changeOf, rowsAfter}
+use Rattle.machine.specs.Change.{chunkCount, goalIn, changeOf}
+use Rattle.machine.specs.Tables.{block, topChunk, chunksAfter, savedAfter, rowsAfter}
 use Rattle.machine.specs.Room.{room}
-use Rattle.machine.specs.Machine.{State, nothing, obligationAt, current, stepIn, judgedNow, moved, goOn, refusedAt, ranFrom, lineNoted, linesNoted, linesPut, first, begun, ran}
-use Rattle.machine.specs.Turn.{numberIn, stateOf}
+use Rattle.machine.specs.Machine.{State, nothing, obligationAt, current, stepIn, judgedNow, moved, goOn, refusedAt, endedAt, ranFrom, lineNoted, linesNoted, linesPut, first, firstStack, begun, ran}
+use Rattle.machine.specs.Turn.{numberIn, stackOf, stateOf}
 
 -- One step of the definition, and none.
 ran-suc : (forms steps : List ℕ) (k i : ℕ) (s : State) →
@@ -35,7 +35,7 @@ unfolding ranFrom
 ran-suc forms steps k i s = refl
 
 ran-zero : (forms steps : List ℕ) (i : ℕ) (s : State) →
-    ranFrom forms steps zero i s ≡ pick (eqb (s .opened) 0) Granted (refusedAt 12 i)
+    ranFrom forms steps zero i s ≡ endedAt (s .opened) i
 unfolding ranFrom
 ran-zero forms steps i s = refl
 
@@ -81,17 +81,10 @@ module _ (forms steps : List ℕ) (n i : ℕ) (s : State) where
       pick-true _ _ _ (eq-eqb (s .opened) 0 none)
 
   -- No step is left.
-  pub ended : n ≤ i → s .opened ≡ 0 → ranFrom forms steps (n - i) i s ≡ Granted
-  ended h none =
+  pub ended : n ≤ i → ranFrom forms steps (n - i) i s ≡ endedAt (s .opened) i
+  ended h =
       let e : n - i ≡ 0 = omega arith in
-      ap (λ (k : ℕ). ranFrom forms steps k i s) e ∙ ran-zero forms steps i s ∙
-      pick-true _ _ _ (eq-eqb (s .opened) 0 none)
-
-  pub ended-open : n ≤ i → (s .opened ≡ 0 → ⊥) → ranFrom forms steps (n - i) i s ≡ refusedAt 12 i
-  ended-open h some =
-      let e : n - i ≡ 0 = omega arith in
-      ap (λ (k : ℕ). ranFrom forms steps k i s) e ∙ ran-zero forms steps i s ∙
-      pick-false _ _ _ (ne-eqb (s .opened) 0 some)
+      ap (λ (k : ℕ). ranFrom forms steps k i s) e ∙ ran-zero forms steps i s
 
 -- The beginning, line by line: an `sf` line, another one, and the lines from the last on.
 pub line-sf : (forms : List ℕ) (f : ℕ) (rows : List ℕ) → rowAt forms f .kind ≡ 7 →
@@ -169,66 +162,79 @@ read-any [] i a b h = let z : ⊥ = omega arith in absurd z
 read-any (x ∷ l) zero a b h = refl
 read-any (x ∷ l) (suc i) a b h = read-any l i a b (omega arith)
 
-pub read-at : (s : State) (i j : ℕ) (a : Obligation) → j ≡ i → i < length (s .stack) → getD (s .stack) j a ≡ obligationAt s i
+pub read-at : (s : State) (i j : ℕ) (a : Obligation) → j ≡ i → i < length (s .stack .obligations) →
+    getD (s .stack .obligations) j a ≡ obligationAt s i
 unfolding obligationAt
-read-at s i j a e h = ap (λ (k : ℕ). getD (s .stack) k a) e ∙ read-any (s .stack) i a nothing h
+read-at s i j a e h = ap (λ (k : ℕ). getD (s .stack .obligations) k a) e ∙ read-any (s .stack .obligations) i a nothing h
 
-pub judged-is : (forms : List ℕ) (s : State) (x : Step) (o : Obligation) (j : Judged) → o ≡ current s →
-    j ≡ judgeStep forms (s .rows) (s .clauses) (s .ats) (o .phase) (topChunk o) x (o .worlds) (o .clauses) (s .opened) →
+pub judged-is : (forms : List ℕ) (s : State) (x : Step) (o : Obligation) (top : ℕ) (j : Judged) → o ≡ current s →
+    top ≡ topChunk (s .stack .chunks) (s .opened - 1) (o .phase) →
+    j ≡ judgeStep forms (s .rows) (s .clauses) (s .ats) (o .phase) top x (o .worlds) (o .clauses) (s .opened) →
     judgedNow forms s x ≡ j
 unfolding judgedNow
-judged-is forms s x o j e q = sym (rw e at q)
+judged-is forms s x o top j e t q = sym (rw (t, e) at q)
 
-moved-is : (s : State) (m : Move) (o next : Obligation) (made : Change) (rows clauses ats : List ℕ) →
-    o ≡ current s → next ≡ obligationAt s (s .opened - 2) →
-    made ≡ changeOf m o (sfRows (s .rows) (o .worlds - 1)) (s .opened) → rows ≡ rowsAfter m o next (s .rows) →
-    clauses ≡ set (s .clauses) (o .clauses) (topChunk o) → ats ≡ set (s .ats) (o .clauses) (goalIn (o .phase) .at .0) →
-    stateOf rows (set (set (s .stack) (s .opened) (made .upper)) (s .opened - 1) (made .lower)) (made .opened) clauses ats ≡
-    moved s m
+-- What each call of a turn answers: the current obligation o and its topmost chunk, the one below, what is made of o, and the tables.
+pub record Written (s : State) (m : Move) (o next : Obligation) (top : ℕ) (made : Change) (rows chunks saved clauses ats : List ℕ) :
+    Type 0 where
+  pub this : o ≡ current s
+  pub topmost : top ≡ topChunk (s .stack .chunks) (s .opened - 1) (o .phase)
+  pub under : next ≡ obligationAt s (s .opened - 2)
+  pub change : made ≡ changeOf m o (s .opened)
+  pub kept : saved ≡ savedAfter (s .opened) (made .opened) (s .rows) (o .worlds) (s .stack .saved)
+  pub facts : rows ≡ rowsAfter m o next (block saved (s .opened - 2)) (s .rows)
+  pub held : chunks ≡ chunksAfter m (chunkCount (o .phase)) (s .opened - 1) (s .stack .chunks)
+  pub clause : clauses ≡ set (s .clauses) (o .clauses) top
+  pub world : ats ≡ set (s .ats) (o .clauses) (goalIn (o .phase) .at .0)
+
+abbrev pub written : State → Change → List ℕ → List ℕ → List ℕ → List ℕ → List ℕ → State
+written s made rows chunks saved clauses ats =
+    stateOf rows
+    (stackOf (set (set (s .stack .obligations) (s .opened) (made .upper)) (s .opened - 1) (made .lower)) chunks saved)
+    (made .opened) clauses ats
+
+moved-is : (s : State) (m : Move) (o next : Obligation) (top : ℕ) (made : Change) (rows chunks saved clauses ats : List ℕ) →
+    Written s m o next top made rows chunks saved clauses ats → written s made rows chunks saved clauses ats ≡ moved s m
 unfolding moved
-moved-is s m o next made rows clauses ats eo en em er ec ea = rw (er, em, ec, ea, en, eo) refl
+moved-is s m o next top made rows chunks saved clauses ats w =
+    rw (w .facts, w .held, w .kept, w .change, w .clause, w .world, w .topmost, w .under, w .this) refl
 
-room-after : (m : Move) (o : Obligation) (saved : List ℕ) (w c k opened : ℕ) → room m w c k opened → opened ≤ 256 →
-    changeOf m o saved opened .opened ≤ 256
+room-after : (m : Move) (o : Obligation) (w c k opened : ℕ) → room m w c k opened → opened ≤ 256 → changeOf m o opened .opened ≤ 256
 unfolding room changeOf
-room-after move.Close o saved w c k opened r h = omega arith
-room-after (move.Go p) o saved w c k opened r h = h
-room-after (move.Both f g) o saved w c k opened r h = omega arith
-room-after (move.Meet f p) o saved w c k opened r h = omega arith
-room-after (move.Less f g) o saved w c k opened r h = h
-room-after (move.Speak a f) o saved w c k opened r h = h
-room-after move.Push o saved w c k opened r h = h
-room-after move.Drop o saved w c k opened r h = h
-room-after (move.Note a b) o saved w c k opened r h = h
-room-after (move.Split f g) o saved w c k opened r h = h
-room-after (move.Case f g) o saved w c k opened r h = omega arith
+room-after move.Close o w c k opened r h = omega arith
+room-after (move.Go p) o w c k opened r h = h
+room-after (move.Both f g) o w c k opened r h = omega arith
+room-after (move.Meet f p) o w c k opened r h = omega arith
+room-after (move.Less f g) o w c k opened r h = h
+room-after (move.Speak a f) o w c k opened r h = h
+room-after move.Push o w c k opened r h = h
+room-after move.Drop o w c k opened r h = h
+room-after (move.Note a b) o w c k opened r h = h
+room-after (move.Split f g) o w c k opened r h = h
+room-after (move.Case f g) o w c k opened r h = omega arith
 
-pub made-room : (m : Move) (o : Obligation) (saved : List ℕ) (w c k opened : ℕ) (made : Change) → made ≡ changeOf m o saved opened →
+pub made-room : (m : Move) (o : Obligation) (w c k opened : ℕ) (made : Change) → made ≡ changeOf m o opened →
     room m w c k opened → opened ≤ 256 → made .opened ≤ 256
-made-room m o saved w c k opened made e r h = rw e (room-after m o saved w c k opened r h)
+made-room m o w c k opened made e r h = rw e (room-after m o w c k opened r h)
 
 -- A whole turn: what is left of the walk, from the state that the turn has written.
-pub turn-on : (forms steps : List ℕ) (n i : ℕ) (s : State) (whole : Walked) (m : Move) (o next : Obligation) (j : Judged) (made : Change)
-    (rows clauses ats : List ℕ) → whole ≡ ranFrom forms steps (n - i) i s → i < n → (s .opened ≡ 0 → ⊥) → o ≡ current s →
-    next ≡ obligationAt s (s .opened - 2) →
-    j ≡ judgeStep forms (s .rows) (s .clauses) (s .ats) (o .phase) (topChunk o) (stepIn steps i) (o .worlds) (o .clauses) (s .opened) →
-    j ≡ Fits m → made ≡ changeOf m o (sfRows (s .rows) (o .worlds - 1)) (s .opened) → rows ≡ rowsAfter m o next (s .rows) →
-    clauses ≡ set (s .clauses) (o .clauses) (topChunk o) → ats ≡ set (s .ats) (o .clauses) (goalIn (o .phase) .at .0) →
-    whole ≡
-    ranFrom forms steps (n - (i + 1)) (i + 1)
-    (stateOf rows (set (set (s .stack) (s .opened) (made .upper)) (s .opened - 1) (made .lower)) (made .opened) clauses ats)
-turn-on forms steps n i s whole m o next j made rows clauses ats w early some eo en ej fits em er ec ea =
-    w ∙ turn forms steps n i s m early some (judged-is forms s (stepIn steps i) o j eo ej ∙ fits) ∙
-    ap (ranFrom forms steps (n - (i + 1)) (i + 1)) (sym (moved-is s m o next made rows clauses ats eo en em er ec ea))
+pub turn-on : (forms steps : List ℕ) (n i : ℕ) (s : State) (whole : Walked) (m : Move) (o next : Obligation) (top : ℕ) (j : Judged)
+    (made : Change) (rows chunks saved clauses ats : List ℕ) → whole ≡ ranFrom forms steps (n - i) i s → i < n → (s .opened ≡ 0 → ⊥) →
+    j ≡ judgeStep forms (s .rows) (s .clauses) (s .ats) (o .phase) top (stepIn steps i) (o .worlds) (o .clauses) (s .opened) →
+    j ≡ Fits m → Written s m o next top made rows chunks saved clauses ats →
+    whole ≡ ranFrom forms steps (n - (i + 1)) (i + 1) (written s made rows chunks saved clauses ats)
+turn-on forms steps n i s whole m o next top j made rows chunks saved clauses ats w early some ej fits wrote =
+    w ∙ turn forms steps n i s m early some (judged-is forms s (stepIn steps i) o top j (wrote .this) (wrote .topmost) ej ∙ fits) ∙
+    ap (ranFrom forms steps (n - (i + 1)) (i + 1)) (sym (moved-is s m o next top made rows chunks saved clauses ats wrote))
 
 -- The first state.
 pub ran-is : (forms lines steps : List ℕ) (count goal n : ℕ) (rows clauses : List ℕ) (o : Obligation) (answer : Walked) →
     rows ≡ linesNoted forms lines count rootRows → clauses ≡ linesPut lines count (replicate 257 0) → o ≡ first goal count →
-    answer ≡ ranFrom forms steps n 0 (stateOf rows (replicate 257 o) 1 clauses (replicate 257 0)) →
+    answer ≡ ranFrom forms steps n 0 (stateOf rows (firstStack o) 1 clauses (replicate 257 0)) →
     answer ≡ ran forms lines steps count goal n
 unfolding ran begun
 ran-is forms lines steps count goal n rows clauses o answer er ec eo e =
-    e ∙ ap (λ (x : List ℕ). ranFrom forms steps n 0 (stateOf x (replicate 257 o) 1 clauses (replicate 257 0))) er ∙
-    ap (λ (x : List ℕ). ranFrom forms steps n 0 (stateOf (linesNoted forms lines count rootRows) (replicate 257 o) 1 x (replicate 257 0))) ec ∙
+    e ∙ ap (λ (x : List ℕ). ranFrom forms steps n 0 (stateOf x (firstStack o) 1 clauses (replicate 257 0))) er ∙
+    ap (λ (x : List ℕ). ranFrom forms steps n 0 (stateOf (linesNoted forms lines count rootRows) (firstStack o) 1 x (replicate 257 0))) ec ∙
     ap (λ (x : Obligation). ranFrom forms steps n 0
-    (stateOf (linesNoted forms lines count rootRows) (replicate 257 x) 1 (linesPut lines count (replicate 257 0)) (replicate 257 0))) eo
+    (stateOf (linesNoted forms lines count rootRows) (firstStack x) 1 (linesPut lines count (replicate 257 0)) (replicate 257 0))) eo

@@ -1,4 +1,5 @@
 pub mod Change
+pub mod Tables
 pub mod Room
 pub mod Machine
 pub mod Turn

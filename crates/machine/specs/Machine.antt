@@ -3,7 +3,7 @@ use Prim.Native.Nat.{ℕ, zero, suc, _+_, _-_, _*_}
 use mathlib.Core.List.{List, [], _∷_}
 use lib.ListN.{getD, set, replicate}
 use lib.Dec.{eqb}
-use Rattle.facts.specs.Rows.{sfRows, rootRows, noted}
+use Rattle.facts.specs.Rows.{rootRows, noted}
 use Rattle.moves.specs.declared.Phase.the-variants as phase
 use Rattle.moves.specs.declared.Move.{Move}
 use Rattle.moves.specs.declared.Step.{Step}
@@ -15,12 +15,19 @@ use Rattle.moves.specs.Judge.{rowAt, judgeStep}
 use Rattle.machine.specs.declared.Obligation.{Obligation}
 use Rattle.machine.specs.declared.Walked.{Walked}
 use Rattle.machine.specs.declared.Walked.the-variants.{Granted, Refused}
-use Rattle.machine.specs.Change.{lab, topChunk, goalIn, changeOf, rowsAfter}
+use Rattle.machine.specs.Change.{lab, chunkCount, goalIn, changeOf}
+use Rattle.machine.specs.Tables.{block, topChunk, chunksAfter, savedAfter, rowsAfter}
 
--- The record that the walk writes in place: the rows of facts, the open obligations (the last opened is the current one), the clauses.
+-- What the walk writes in place: the rows of facts; the open obligations, the last opened of which is the current one, with their chunks
+-- and saved rows; and the clauses.
+pub record Stack : Type 0 where
+  pub obligations : List Obligation
+  pub chunks : List ℕ
+  pub saved : List ℕ
+
 pub record State : Type 0 where
   pub rows : List ℕ
-  pub stack : List Obligation
+  pub stack : Stack
   pub opened : ℕ
   pub clauses : List ℕ
   pub ats : List ℕ
@@ -53,26 +60,30 @@ stepIn steps i =
 
 -- What stands past the end of the open obligations.
 abbrev pub nothing : Obligation
-nothing =
-    record { phase = phase.Goal (lab 0 0); worlds = 0; clauses = 0; chunks = replicate 16 0; saved = replicate 16 0 }
+nothing = record { phase = phase.Goal (lab 0 0); worlds = 0; clauses = 0 }
 
 unfoldable pub obligationAt : State → ℕ → Obligation
-obligationAt s i = getD (s .stack) i nothing
+obligationAt s i = getD (s .stack .obligations) i nothing
 
 abbrev pub current : State → Obligation
 current s = obligationAt s (s .opened - 1)
 
--- The move written into the record.
+-- The move written into the tables.
 unfoldable pub moved : State → Move → State
-unfolding obligationAt changeOf rowsAfter topChunk goalIn
+unfolding obligationAt changeOf chunkCount topChunk chunksAfter savedAfter block rowsAfter goalIn
 moved s m =
     let o = current s in
-    let c = changeOf m o (sfRows (s .rows) (o .worlds - 1)) (s .opened) in
+    let c = changeOf m o (s .opened) in
+    let saved = savedAfter (s .opened) (c .opened) (s .rows) (o .worlds) (s .stack .saved) in
     record {
-      rows = rowsAfter m o (obligationAt s (s .opened - 2)) (s .rows);
-      stack = set (set (s .stack) (s .opened) (c .upper)) (s .opened - 1) (c .lower);
+      rows = rowsAfter m o (obligationAt s (s .opened - 2)) (block saved (s .opened - 2)) (s .rows);
+      stack = record {
+        obligations = set (set (s .stack .obligations) (s .opened) (c .upper)) (s .opened - 1) (c .lower);
+        chunks = chunksAfter m (chunkCount (o .phase)) (s .opened - 1) (s .stack .chunks);
+        saved = saved;
+      };
       opened = c .opened;
-      clauses = set (s .clauses) (o .clauses) (topChunk o);
+      clauses = set (s .clauses) (o .clauses) (topChunk (s .stack .chunks) (s .opened - 1) (o .phase));
       ats = set (s .ats) (o .clauses) (goalIn (o .phase) .at .0);
     }
 
@@ -80,7 +91,8 @@ unfoldable pub judgedNow : List ℕ → State → Step → Judged
 unfolding obligationAt topChunk judgeStep
 judgedNow forms s x =
     let o = current s in
-    judgeStep forms (s .rows) (s .clauses) (s .ats) (o .phase) (topChunk o) x (o .worlds) (o .clauses) (s .opened)
+    let top = topChunk (s .stack .chunks) (s .opened - 1) (o .phase) in
+    judgeStep forms (s .rows) (s .clauses) (s .ats) (o .phase) top x (o .worlds) (o .clauses) (s .opened)
 
 abbrev pub refusedAt : ℕ → ℕ → Walked
 refusedAt k i = Refused (record { number = k; step = i + 1 })
@@ -89,10 +101,14 @@ unfoldable pub goOn : Judged → ℕ → (Move → Walked) → Walked
 goOn (Fits m) i next = next m
 goOn (No k) i next = refusedAt k i
 
--- n steps are left, from step number i (from 0) on: 11 where everything is closed, 12 where something is open at the end.
+-- No step is left: 12 where something is open.
+abbrev pub endedAt : ℕ → ℕ → Walked
+endedAt opened i = pick (eqb opened 0) Granted (refusedAt 12 i)
+
+-- n steps are left, from step number i (from 0) on: 11 where everything is closed.
 unfoldable pub ranFrom : List ℕ → List ℕ → ℕ → ℕ → State → Walked
 unfolding pick goOn judgedNow stepIn moved
-ranFrom forms steps zero i s = pick (eqb (s .opened) 0) Granted (refusedAt 12 i)
+ranFrom forms steps zero i s = endedAt (s .opened) i
 ranFrom forms steps (suc n) i s =
     pick (eqb (s .opened) 0) (refusedAt 11 i)
     (goOn (judgedNow forms s (stepIn steps i)) i (λ m. ranFrom forms steps n (i + 1) (moved s m)))
@@ -113,15 +129,17 @@ linesPut lines zero clauses = clauses
 linesPut lines (suc i) clauses = linesPut lines i (set clauses i (getD lines i 0))
 
 unfoldable pub first : ℕ → ℕ → Obligation
-first goal count =
-    record { phase = phase.Goal (lab goal 0); worlds = 1; clauses = count; chunks = replicate 16 0; saved = replicate 16 0 }
+first goal count = record { phase = phase.Goal (lab goal 0); worlds = 1; clauses = count }
+
+abbrev pub firstStack : Obligation → Stack
+firstStack o = record { obligations = replicate 257 o; chunks = replicate 4112 0; saved = replicate 4112 0 }
 
 unfoldable pub begun : List ℕ → List ℕ → ℕ → ℕ → State
 unfolding first linesNoted linesPut rootRows
 begun forms lines count goal =
     record {
       rows = linesNoted forms lines count rootRows;
-      stack = replicate 257 (first goal count);
+      stack = firstStack (first goal count);
       opened = 1;
       clauses = linesPut lines count (replicate 257 0);
       ats = replicate 257 0;

@@ -4,12 +4,15 @@ use mathlib.Core.List.{List}
 use Rattle.moves.specs.declared.Judged.{Judged}
 use Rattle.moves.specs.declared.Judged.the-variants.{Fits, No}
 use Rattle.machine.specs.declared.Obligation.{Obligation}
-use Rattle.machine.specs.Machine.{State}
+use Rattle.machine.specs.Machine.{Stack, State}
 
 unfoldable pub numberIn : Judged → ℕ
 numberIn (Fits m) = 0
 numberIn (No k) = k
 
-abbrev pub stateOf : List ℕ → List Obligation → ℕ → List ℕ → List ℕ → State
+abbrev pub stackOf : List Obligation → List ℕ → List ℕ → Stack
+stackOf obligations chunks saved = record { obligations = obligations; chunks = chunks; saved = saved }
+
+abbrev pub stateOf : List ℕ → Stack → ℕ → List ℕ → List ℕ → State
 stateOf rows stack opened clauses ats =
     record { rows = rows; stack = stack; opened = opened; clauses = clauses; ats = ats }

@@ -2,10 +2,8 @@
 ghost use mathlib.Core.Path.{_≡_};
 ghost use Rattle.facts.specs.Rows.{rootRows};
 ghost use Rattle.machine.specs.Machine.{lineNoted, linesNoted, linesPut, first};
-use crate::CHUNKS;
 use crate::Obligation;
 use crate::changes;
-use facts::PRINCIPALS;
 use facts::Principal;
 use facts::ROWS;
 use facts::Row;
@@ -59,7 +57,5 @@ pub(crate) fn first_one(goal: u16, count: u16) -> Obligation
         phase: Phase::Goal(g),
         worlds: 1,
         clauses: count,
-        chunks: [0; CHUNKS],
-        saved: [0; PRINCIPALS],
     }
 }

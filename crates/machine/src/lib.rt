@@ -1,23 +1,20 @@
-// The walk through the steps over one record of open obligations, written in place.
-use facts::PRINCIPALS;
-use facts::Row;
+// The walk through the steps over tables of the open obligations, written in place.
 use moves::Phase;
 
 mod begin;
 mod changes;
+mod tables;
 pub mod walking;
 
 // Chunks of an obligation, one place for each.
 pub const CHUNKS: usize = 16;
 
-// An open obligation: its phase, the worlds and clauses of its sequent, its chunks (the topmost last, all at the goal's world), and, where
-// it waits, the rows of sf of its newest world as they stood when it was made.
+// An open obligation: its phase, and the worlds and clauses of its sequent. Its chunks, and, where it waits, the rows of sf of its newest
+// world as they stood when it was made, are in tables of their own, at its place among the open ones.
 pub struct Obligation {
     pub phase: Phase,
     pub worlds: u16,
     pub clauses: u16,
-    pub chunks: [u16; CHUNKS],
-    pub saved: [Row; PRINCIPALS],
 }
 
 // What a move makes of the current obligation, which is the last of those opened: what stands in its place, what stands after it where one

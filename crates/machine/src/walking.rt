@@ -1,32 +1,27 @@
 // The walk: each step is judged on the current obligation and its move written in place; the first refusal is the answer.
 ghost use mathlib.Core.Path.{_≡_};
 ghost use mathlib.Core.List.{[], _∷_};
-ghost use Prim.Native.Nat.{_-_};
-ghost use lib.ListN.{set, replicate};
-ghost use Rattle.facts.specs.Rows.{sfRows};
+ghost use lib.ListN.{set};
 ghost use Rattle.moves.specs.Judge.{judgeStep};
-ghost use Rattle.machine.specs.Change.{chunkCount, topChunk, goalIn, changeOf};
-ghost use Rattle.machine.specs.Room.{room};
-ghost use Rattle.machine.specs.Machine.{stepIn, refusedAt, ranFrom, ran};
+ghost use Rattle.machine.specs.Change.{goalIn};
+ghost use Rattle.machine.specs.Machine.{stepIn, refusedAt, endedAt, firstStack, ranFrom, ran};
 ghost use Rattle.machine.specs.Turn.{numberIn, stateOf};
-use crate::Change;
 use crate::Obligation;
 use crate::Refusal;
 use crate::Walked;
 use crate::begin;
 use crate::changes;
+use crate::tables;
+use crate::tables::ENTRIES;
+use crate::tables::OPENED;
 use facts::ROWS;
 use facts::Row;
 use facts::World;
 use moves::Clause;
 use moves::Judged;
-use moves::Move;
 use moves::Step;
 use moves::judging;
 use moves::judging::CLAUSES;
-
-// The open obligations, and one place more, which is never read.
-const OPENED: usize = 257;
 
 fn step_of(kind: u16, number: u16) -> Step
     ensures { λ r. ⌜ r ≡ stepIn (kind ∷ number ∷ []) 0 ⌝ }
@@ -87,14 +82,14 @@ fn judge_now(
     steps: &[u16],
     i: u16,
     o: Obligation,
+    top: u16,
     opened: u16,
 ) -> Judged
-    ensures { λ r. ⌜ r ≡ judgeStep (now (forms .entry)) (now (rows .entry)) (now (clauses .entry)) (now (ats .entry)) (o .phase) (topChunk o) (stepIn (now (steps .entry)) i) (o .worlds) (o .clauses) opened ⌝ }
+    ensures { λ r. ⌜ r ≡ judgeStep (now (forms .entry)) (now (rows .entry)) (now (clauses .entry)) (now (ats .entry)) (o .phase) top (stepIn (now (steps .entry)) i) (o .worlds) (o .clauses) opened ⌝ }
 {
     let phase = o.phase;
     let worlds = o.worlds;
     let count = o.clauses;
-    let top = changes::top_chunk(o);
     let x = step_at(steps, i);
     judging::judge_step(
         forms,
@@ -110,33 +105,27 @@ fn judge_now(
     )
 }
 
-// What the move makes of the current obligation, which waits, where it does, with the rows of sf of its newest world.
-fn change_now(rows: &[Row; ROWS], m: Move, o: Obligation, opened: u16) -> Change
-    requires { ⌜ room m (o .worlds) (o .clauses) (chunkCount (o .phase)) opened ⌝ }
-    ensures { λ r. ⌜ r ≡ changeOf m o (sfRows (now (rows .entry)) (o .worlds - 1)) opened ⌝ }
-{
-    let newest = changes::less_by(o.worlds, 1);
-    let saved = facts::sf_rows(rows, World(newest));
-    changes::change_of(m, o, saved, opened)
-}
-
-// The topmost chunk at the next clause's number, which no sequent has yet.
-fn put_clause(clauses: &mut [u16; CLAUSES], o: Obligation)
-    ensures { λ _. ⌜ now (clauses .exit) ≡ set (now (clauses .entry)) (o .clauses) (topChunk o) ⌝ }
-{
-    let n = o.clauses as usize;
-    let top = changes::top_chunk(o);
-    changes::put_entry(clauses, n, top);
-}
-
-fn put_world(ats: &mut [u16; CLAUSES], o: Obligation)
+// The topmost chunk, and its world, at the next clause's number, which no sequent has yet.
+fn put_clause(clauses: &mut [u16; CLAUSES], ats: &mut [u16; CLAUSES], o: Obligation, top: u16)
+    ensures { λ _. ⌜ now (clauses .exit) ≡ set (now (clauses .entry)) (o .clauses) top ⌝ }
     ensures { λ _. ⌜ now (ats .exit) ≡ set (now (ats .entry)) (o .clauses) (goalIn (o .phase) .at .0) ⌝ }
 {
     let n = o.clauses as usize;
     let phase = o.phase;
     let g = changes::goal_in(phase);
     let u = g.at;
+    changes::put_entry(clauses, n, top);
     changes::put_entry(ats, n, u.0);
+}
+
+// The answer where no step is left.
+fn end_at(opened: u16, i: u16) -> Walked
+    ensures { λ r. ⌜ r ≡ endedAt opened i ⌝ }
+{
+    if 0 < opened {
+        return refused_at(12, i);
+    }
+    Walked::Granted
 }
 
 // All steps, from one open obligation on.
@@ -149,35 +138,35 @@ fn run_steps(
     ats: &mut [u16; CLAUSES],
     begun: Obligation,
 ) -> Walked
-    ensures { λ r. ⌜ r ≡ ranFrom (now (forms .entry)) (now (steps .entry)) total 0 (stateOf (now (rows .entry)) (replicate 257 begun) 1 (now (clauses .entry)) (now (ats .entry))) ⌝ }
+    ensures { λ r. ⌜ r ≡ ranFrom (now (forms .entry)) (now (steps .entry)) total 0 (stateOf (now (rows .entry)) (firstStack begun) 1 (now (clauses .entry)) (now (ats .entry))) ⌝ }
 {
     let mut stack = [begun; OPENED];
+    let mut chunks = [0; ENTRIES];
+    let mut saved = [0; ENTRIES];
     let mut opened: u16 = 1;
     for i in 0..total {
         if opened == 0 {
             return refused_at(11, i);
         }
-        let top = opened as usize - 1;
-        let o = stack[top];
-        let j = judge_now(forms, rows, clauses, ats, steps, i, o, opened);
+        let place = opened - 1;
+        let o = stack[place as usize];
+        let top = tables::top_chunk(&chunks, place, o);
+        let j = judge_now(forms, rows, clauses, ats, steps, i, o, top, opened);
         let Judged::Fits(m) = j else {
             return refused_at(number_in(j), i);
         };
-        let made = change_now(rows, m, o, opened);
+        let made = changes::change_of(m, o, opened);
+        let more = made.opened;
         let next = stack[changes::less_by(opened, 2) as usize];
-        changes::move_rows(rows, m, o, next);
-        put_clause(clauses, o);
-        put_world(ats, o);
+        tables::move_tables(rows, &mut chunks, &mut saved, m, o, next, opened, more);
+        put_clause(clauses, ats, o, top);
         let upper = made.upper;
         let lower = made.lower;
         stack[opened as usize] = upper;
-        stack[top] = lower;
-        opened = made.opened;
+        stack[place as usize] = lower;
+        opened = more;
     }
-    if 0 < opened {
-        return refused_at(12, total);
-    }
-    Walked::Granted
+    end_at(opened, total)
 }
 
 // The answer about the steps, for any tables and counts: count policy lines, total steps.

@@ -16,9 +16,11 @@ use Rattle.facts.specs.Kept.{Kept}
 use Rattle.facts.specs.Noted.{kept-note}
 use Rattle.facts.specs.Root.{kept-root}
 use Rattle.moves.specs.Steps.{pick}
+use Rattle.machine.specs.Tables.{block}
 use Rattle.machine.specs.Machine.{lineNoted, linesNoted, linesPut, first, begun}
 use Rattle.walks.specs.Trees.{byMeans, Reading}
-use Rattle.walks.specs.Related.{labs, downFrom, at-goal, at-rest, Clauses, none-waits, metIn, Related, now-open}
+use Rattle.walks.specs.Blocks.{block-length}
+use Rattle.walks.specs.Related.{labs, entryAt, downFrom, at-goal, at-rest, Clauses, none-waits, metIn, Related, now-open}
 use Rattle.walks.specs.Rooms.{labs-length}
 use Rattle.walks.specs.Fitting.{labs-at}
 
@@ -125,20 +127,25 @@ module _ (T : Reading) (lines nums : List ℕ) (count : ℕ) (long : length nums
 
   pub begun-related : (goal : ℕ) → goal < T .formulas →
       Related T (begun (T .table) lines count goal) (start (T .principals) policy (T .tree goal) ∷ [])
-  unfolding begun first start downFrom metIn rootFacts
+  unfolding begun first start entryAt downFrom metIn rootFacts
   begun-related goal h =
       let some : 0 < 1 = omega arith in
       let all : drop count policy ≡ [] =
       rw (← (length-map nums (T .tree) ∙ long)) (drop-length policy) in
       let begins : Kept 1 (T .principals) (rootFacts (drop count policy)) rootRows = rw all (kept-root (T .principals) (T .few)) in
-      now-open {ch = replicate 16 0} {sv = replicate 16 0} {n = 0} {m = 0}
+      now-open {ch = block (replicate 4112 0) 0} {sv = block (replicate 4112 0) 0} {n = 0} {m = 0}
       (record {
-        stack-size = length-replicate 257 (first goal count);
+        stack-size =
+            record {
+              obligations = length-replicate 257 (first goal count);
+              chunks = length-replicate {A = ℕ} 4112 0;
+              saved = length-replicate {A = ℕ} 4112 0;
+            };
         cl-size = put-length lines count zeros ∙ length-replicate {A = ℕ} 257 0;
         ats-size = length-replicate {A = ℕ} 257 0;
         room = omega arith;
         on-top = refl;
-        chunk-size = refl;
+        chunk-size = block-length (replicate 4112 0) 0;
         clauses = clauses-begun;
         kept = lines-kept count (omega arith) rootRows begins;
       })

@@ -22,10 +22,10 @@ use Rattle.moves.specs.declared.Step.{Step}
 use Rattle.moves.specs.declared.Step.the-variants as step
 use Rattle.moves.specs.Steps.{pick, principal, pushStep, splitStep, caseStep, absurdStep, dropStep, noteStep}
 use Rattle.moves.specs.Judge.{rowAt, onChunk, chunkStep}
-use Rattle.machine.specs.declared.Obligation as E
 use Rattle.machine.specs.Change as numbers
+use Rattle.machine.specs.Machine.{Stack}
 use Rattle.walks.specs.Trees.{Means, Reading}
-use Rattle.walks.specs.Related.{stateOf, downFrom, chunksOf, Below, seq, Waits, Frame}
+use Rattle.walks.specs.Related.{Entry, stateOf, downFrom, chunksOf, Below, seq, Waits, Frame}
 use Rattle.walks.specs.Views.{waits-count}
 use Rattle.walks.specs.Moved.{moved-close}
 use Rattle.walks.specs.Moves.{moved-drop, moved-note, moved-push, moved-split, moved-case}
@@ -45,7 +45,7 @@ unfolding metCount
 behind-met [] g = refl
 behind-met (c ∷ cs) g = refl
 
-module _ {T : Reading} {rows cl ats ch sv : List ℕ} {stack es : List E.Obligation} {n m c t u i : ℕ} {fs : List Fact}
+module _ {T : Reading} {rows cl ats ch sv : List ℕ} {stack : Stack} {es : List Entry} {n m c t u i : ℕ} {fs : List Fact}
     {ls : List Lab} (frame : Frame T rows stack n cl ats (phase.Chunks (numbers.lab t u) (suc i)) m c ch sv fs ls)
     (down : downFrom stack n ≡ es) (named : t < T .formulas) (newest : suc u ≡ suc m) (few : i < 16)
     (known : Below (T .formulas) (suc i) ch) {waiting : List Obligation} (waits : Waits T rows cl ats (suc m) c es waiting) where

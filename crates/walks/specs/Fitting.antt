@@ -11,10 +11,10 @@ use lib.ListN.{length, getD, getElem?, List·getD-append}
 use lib.Seq.{getD-at}
 use Rattle.scope.specs.Form.{Form}
 use Rattle.scope.specs.Facts.{Fact}
-use Rattle.scope.specs.Obligation.{Lab, lab, Sequent, Phase, Obligation, ob}
+use Rattle.scope.specs.Obligation.{Lab, lab, Sequent, Phase, ob}
 use Rattle.scope.specs.Room.{chunkCount, metCount, openCount, small, within}
 use Rattle.moves.specs.declared.Phase as D
-use Rattle.machine.specs.declared.Obligation as E
+use Rattle.machine.specs.Machine.{Stack}
 use Rattle.walks.specs.Trees.{Reading}
 use Rattle.walks.specs.Related.{labs, Clauses, seq, Frame}
 use Rattle.walks.specs.Rooms.{Small, small-more, within-true, labs-length}
@@ -23,7 +23,7 @@ pub clauses-length : {T : Reading} {cl ats : List ℕ} {c : ℕ} {ls : List Lab}
 clauses-length {T} {cl} {ats} {c} k = ap length (k .are) ∙ labs-length (T .tree) c cl ats
 
 -- The clauses of the current sequent are few.
-pub clauses-few : {T : Reading} {rows cl ats ch sv : List ℕ} {stack : List E.Obligation} {n m c : ℕ} {ph : D.Phase} {fs : List Fact}
+pub clauses-few : {T : Reading} {rows cl ats ch sv : List ℕ} {stack : Stack} {n m c : ℕ} {ph : D.Phase} {fs : List Fact}
     {ls : List Lab} → Frame T rows stack n cl ats ph m c ch sv fs ls → length ls ≤ 256
 clauses-few frame = omega (arith, clauses-length (frame .clauses), frame .clauses .few)
 
@@ -36,7 +36,7 @@ pub one-within : (w : ℕ) (s : Sequent) (p : Phase) → Small s p → suc (metC
 unfolding small openCount
 one-within w s p h g = within-true w (ob s p ∷ []) (small-more s p [] h refl) (omega arith)
 
-module _ {T : Reading} {rows cl ats ch sv : List ℕ} {stack : List E.Obligation} {n m c : ℕ} {ph : D.Phase} {fs : List Fact}
+module _ {T : Reading} {rows cl ats ch sv : List ℕ} {stack : Stack} {n m c : ℕ} {ph : D.Phase} {fs : List Fact}
     {ls : List Lab} (frame : Frame T rows stack n cl ats ph m c ch sv fs ls) (w : ℕ) where
   pub small-now : (p : Phase) → chunkCount p ≤ 16 → Small (seq T (suc m) fs ls) p
   small-now p h =

@@ -22,10 +22,10 @@ use Rattle.moves.specs.declared.Step.{Step}
 use Rattle.moves.specs.declared.Step.the-variants as step
 use Rattle.moves.specs.Steps.{pick, leftStep, rightStep, toStep, hitStep}
 use Rattle.moves.specs.Judge.{rowAt, onFocus, focusStep}
-use Rattle.machine.specs.declared.Obligation as E
 use Rattle.machine.specs.Change as numbers
+use Rattle.machine.specs.Machine.{Stack}
 use Rattle.walks.specs.Trees.{Reading}
-use Rattle.walks.specs.Related.{stateOf, downFrom, in-focus, seq, Waits, metIn, Frame}
+use Rattle.walks.specs.Related.{Entry, stateOf, downFrom, in-focus, seq, Waits, metIn, Frame}
 use Rattle.walks.specs.Views.{waits-count}
 use Rattle.walks.specs.Moved.{moved-close}
 use Rattle.walks.specs.Moves.{moved-go, moved-meet}
@@ -34,7 +34,7 @@ use Rattle.walks.specs.Fitting.{alone-within, clauses-few}
 use Rattle.walks.specs.Match.{Match, no-fit, no-room, fits, stepIs, told-has, if-room, if-need, if-below, only-atom, only-and}
 use Rattle.walks.specs.Match.{only-imp-says}
 
-module _ {T : Reading} {rows cl ats ch sv : List ℕ} {stack es : List E.Obligation} {n m c f u t w q : ℕ} {fs : List Fact}
+module _ {T : Reading} {rows cl ats ch sv : List ℕ} {stack : Stack} {es : List Entry} {n m c f u t w q : ℕ} {fs : List Fact}
     {ls : List Lab} (frame : Frame T rows stack n cl ats (phase.Focus (numbers.lab f u) (numbers.lab t w)) m c ch sv fs ls)
     (down : downFrom stack n ≡ es) (named : f < T .formulas) (aimed : w < suc m) (atom : q ≡ rowAt (T .table) t .left)
     (met : List Lab) (waiting : List Obligation)

@@ -27,10 +27,10 @@ use Rattle.moves.specs.declared.Step.the-variants as step
 use Rattle.moves.specs.declared.Found.the-variants as found
 use Rattle.moves.specs.Steps.{pick, principal, andStep, or1Step, or2Step, impStep, saysStep, topStep, sfStep, ifFound, useStep}
 use Rattle.moves.specs.Judge.{rowAt, findClause, useClause, onGoal, goalStep}
-use Rattle.machine.specs.declared.Obligation as E
 use Rattle.machine.specs.Change as numbers
+use Rattle.machine.specs.Machine.{Stack}
 use Rattle.walks.specs.Trees.{Reading}
-use Rattle.walks.specs.Related.{stateOf, downFrom, at-goal, at-rest, in-focus, seq, Waits, metIn, Frame}
+use Rattle.walks.specs.Related.{Entry, stateOf, downFrom, at-goal, at-rest, in-focus, seq, Waits, metIn, Frame}
 use Rattle.walks.specs.Views.{waits-count}
 use Rattle.walks.specs.Moved.{moved-close}
 use Rattle.walks.specs.Moves.{moved-go, moved-both, moved-less, moved-speak}
@@ -39,7 +39,7 @@ use Rattle.walks.specs.Fitting.{alone-within, pair-within, none-within, 
 use Rattle.walks.specs.Match.{Match, no-fit, no-room, fits, stepIs, told-has, if-room, if-need, only-atom, only-top, only-and}
 use Rattle.walks.specs.Match.{only-or, only-imp, only-says, only-sf, sf-kind}
 
-module _ {T : Reading} {rows cl ats ch sv : List ℕ} {stack es : List E.Obligation} {n m c f u : ℕ} {fs : List Fact}
+module _ {T : Reading} {rows cl ats ch sv : List ℕ} {stack : Stack} {es : List Entry} {n m c f u : ℕ} {fs : List Fact}
     {ls : List Lab} (frame : Frame T rows stack n cl ats (phase.Goal (numbers.lab f u)) m c ch sv fs ls) (down : downFrom stack n ≡ es)
     (named : f < T .formulas) (inside : u < suc m) {waiting : List Obligation} (waits : Waits T rows cl ats (suc m) c es waiting) where
   abbrev here : Sequent

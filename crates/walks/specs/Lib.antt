@@ -1,6 +1,8 @@
 pub mod Trees
+pub mod Blocks
 pub mod Related
 pub mod Views
+pub mod Chunks
 pub mod Moved
 pub mod Moves
 pub mod Rooms

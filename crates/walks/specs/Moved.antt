@@ -1,123 +1,186 @@
--- What a move makes of the record, for the current entry e: `moved-at`. From it, for any move: `moved-alone`, where one entry stands in the
+-- What a move makes of the tables, for the current obligation: `moved-at`. From it, for any move: `moved-alone`, where one entry stands in the
 -- current one's place, `moved-fork`, where one more is open and the lower one waits with the saved rows, and `moved-close`, where the next
 -- one below is current and its saved rows are put back.
-use Prim.Native.Nat.{ℕ, zero, suc, _+_, _-_, _<_, _≤_}
-use mathlib.Core.Path.{_≡_, refl, _∙_}
+use Prim.Native.Nat.{ℕ, zero, suc, _+_, _-_, _*_, _<_, _≤_}
+use mathlib.Core.Path.{_≡_, refl, sym, ap, _∙_}
 use mathlib.Core.List.{List, [], _∷_, _++_}
 use native.Mathlib.Omega.{arith}
 use native.Mathlib.Numerals.{add-one}
-use lib.ListN.{length, getD, set, length-set}
+use borrow.Author.Tests.{le-leb, lt-leb}
+use lib.ListN.{length, getD, set, replicate, length-set}
 use lib.Seq.{getD-set-same, getD-set-other}
 use Rattle.scope.specs.Facts.{Fact}
 use Rattle.scope.specs.Obligation.{Lab, Sequent, Phase, Obligation, ob}
 use Rattle.scope.specs.Tests.{never}
-use Rattle.facts.specs.Rows.{sfRows, putSf}
-use Rattle.facts.specs.Kept.{Kept, agree-self, kept-back}
+use Rattle.facts.specs.Fill.{length-fill}
+use Rattle.facts.specs.Rows.{sfAt, sfRows, putSf}
+use Rattle.facts.specs.Kept.{Kept, agree-self, agree-put, kept-back}
 use Rattle.moves.specs.declared.Phase as D
 use Rattle.moves.specs.declared.Move as M
 use Rattle.moves.specs.declared.Move.the-variants as move
+use Rattle.moves.specs.Steps.{pick}
 use Rattle.machine.specs.declared.Obligation as E
-use Rattle.machine.specs.declared.Change as C
-use Rattle.machine.specs.Change.{topChunk, goalIn, changeOf, rowsAfter}
-use Rattle.machine.specs.Machine.{nothing, obligationAt, moved}
+use Rattle.machine.specs.Change.{chunkCount, goalIn, changeOf}
+use Rattle.machine.specs.Tables.{block, putBlock, topChunk, chunksAfter, savedAfter, rowsAfter}
+use Rattle.machine.specs.Machine.{Stack, nothing, obligationAt, moved}
 use Rattle.walks.specs.Trees.{Reading}
-use Rattle.facts.specs.Kept.{agree-put}
-use Rattle.walks.specs.Related.{stateOf, entry, downFrom, Rests, at-goal, at-chunks, Stands, at-rest, Clauses, seq, Waits, none-waits}
-use Rattle.walks.specs.Related.{one-waits, metIn, Frame, Related, all-closed, now-open}
-use Rattle.walks.specs.Views.{down-set, clauses-set, waits-set, waits-rows}
+use Rattle.walks.specs.Blocks.{block-length, block-put, put-length, same-self, same-put}
+use Rattle.walks.specs.Related.{stateOf, Entry, headOf, entry, entryAt, downFrom, Rests, at-goal, at-chunks, Stands, at-rest, Clauses}
+use Rattle.walks.specs.Related.{seq, Waits, none-waits, one-waits, metIn, Frame, Related, all-closed, now-open}
+use Rattle.walks.specs.Views.{entry-is, head-is, saved-is, entry-under, down-under, under-two}
+use Rattle.walks.specs.Views.{clauses-set, waits-set, waits-rows}
+use Rattle.walks.specs.Chunks.{one-less, Wrote}
 
-pub one-less : (n : ℕ) → suc n - 1 ≡ n
-one-less n = omega arith
+sf-length : (rows : List ℕ) (m : ℕ) → length (sfRows rows m) ≡ 16
+unfolding sfRows
+sf-length rows m = length-fill (λ c. getD rows (sfAt m + c) 0) 0 16 (replicate 16 0)
 
--- What stands in the current entry's place, above it, and how many are open.
-abbrev pub changed : List ℕ → ℕ → M.Move → E.Obligation → C.Change
-changed rows n mv e = changeOf mv e (sfRows rows (e .worlds - 1)) (suc n)
+-- The saved rows: one more is written where one more is open.
+abbrev pub savedNow : List ℕ → Stack → ℕ → M.Move → E.Obligation → List ℕ
+savedNow rows stack n mv o = savedAfter (suc n) (changeOf mv o (suc n) .opened) rows (o .worlds) (stack .saved)
 
-pub moved-at : (rows : List ℕ) (stack : List E.Obligation) (n : ℕ) (cl ats : List ℕ) (mv : M.Move) (e : E.Obligation) →
-    getD stack n nothing ≡ e →
+saved-kept : (opened more : ℕ) (rows : List ℕ) (w : ℕ) (saved : List ℕ) → more ≤ opened → savedAfter opened more rows w saved ≡ saved
+unfolding savedAfter pick
+saved-kept opened more rows w saved h = rw (le-leb more opened h) refl
+
+saved-more : (n : ℕ) (rows : List ℕ) (m : ℕ) (saved : List ℕ) →
+    savedAfter (suc n) (suc n + 1) rows (suc m) saved ≡ putBlock saved n (sfRows rows m)
+unfolding savedAfter pick
+saved-more n rows m saved =
+    let more : suc n < suc n + 1 = omega arith in
+    rw (lt-leb (suc n + 1) (suc n) more) (ap (λ (k : ℕ). putBlock saved k (sfRows rows (suc m - 1))) (one-less n) ∙
+    ap (λ (k : ℕ). putBlock saved n (sfRows rows k)) (one-less m))
+
+pub moved-at : (rows : List ℕ) (stack : Stack) (n : ℕ) (cl ats : List ℕ) (mv : M.Move) (o : E.Obligation) →
+    getD (stack .obligations) n nothing ≡ o →
     moved (stateOf rows stack (suc n) cl ats) mv ≡
-    stateOf (rowsAfter mv e (getD stack (suc n - 2) nothing) rows)
-    (set (set stack (suc n) (changed rows n mv e .upper)) n (changed rows n mv e .lower))
-    (changed rows n mv e .opened) (set cl (e .clauses) (topChunk e)) (set ats (e .clauses) (goalIn (e .phase) .at .0))
+    stateOf (rowsAfter mv o (getD (stack .obligations) (suc n - 2) nothing) (block (savedNow rows stack n mv o) (suc n - 2)) rows)
+    (record {
+      obligations = set (set (stack .obligations) (suc n) (changeOf mv o (suc n) .upper)) n (changeOf mv o (suc n) .lower);
+      chunks = chunksAfter mv (chunkCount (o .phase)) n (stack .chunks);
+      saved = savedNow rows stack n mv o;
+    })
+    (changeOf mv o (suc n) .opened) (set cl (o .clauses) (topChunk (stack .chunks) n (o .phase)))
+    (set ats (o .clauses) (goalIn (o .phase) .at .0))
 unfolding moved obligationAt
-moved-at rows stack n cl ats mv e top =
-    let h : getD stack (suc n - 1) nothing ≡ e = rw (one-less n) top in
+moved-at rows stack n cl ats mv o top =
+    let h : getD (stack .obligations) (suc n - 1) nothing ≡ o = rw (one-less n) top in
     rw (h, one-less n) refl
 
-module _ {T : Reading} {rows cl ats ch sv : List ℕ} {stack es : List E.Obligation} {n m c : ℕ} {ph : D.Phase} {fs : List Fact}
+module _ {T : Reading} {rows cl ats ch sv : List ℕ} {stack : Stack} {es : List Entry} {n m c : ℕ} {ph : D.Phase} {fs : List Fact}
     {ls : List Lab} (frame : Frame T rows stack n cl ats ph m c ch sv fs ls) (down : downFrom stack n ≡ es) where
+  abbrev pub topNow : ℕ
+  topNow = topChunk (stack .chunks) n ph
+
   abbrev pub clNow : List ℕ
-  clNow = set cl c (topChunk (entry ph (suc m) c ch sv))
+  clNow = set cl c topNow
 
   abbrev pub atsNow : List ℕ
   atsNow = set ats c (goalIn ph .at .0)
 
-  pub moved-alone : (mv : M.Move) {rows′ : List ℕ} {ph′ : D.Phase} {m′ c′ : ℕ} {ch′ sv′ : List ℕ} {fs′ : List Fact} {ls′ : List Lab}
+  abbrev now : E.Obligation
+  now = headOf ph (suc m) c
+
+  pub moved-alone : (mv : M.Move) {rows′ l′ : List ℕ} {ph′ : D.Phase} {m′ c′ : ℕ} {ch′ : List ℕ} {fs′ : List Fact} {ls′ : List Lab}
       {p′ : Phase} {waiting : List Obligation} →
-      changed rows n mv (entry ph (suc m) c ch sv) ≡
-      record { lower = entry ph′ (suc m′) c′ ch′ sv′; upper = entry ph′ (suc m′) c′ ch′ sv′; opened = suc n } →
-      rowsAfter mv (entry ph (suc m) c ch sv) (getD stack (suc n - 2) nothing) rows ≡ rows′ →
-      length ch′ ≡ 16 → Clauses T clNow atsNow c′ ls′ → Kept (suc m′) (T .principals) fs′ rows′ →
+      changeOf mv now (suc n) ≡
+      record { lower = headOf ph′ (suc m′) c′; upper = headOf ph′ (suc m′) c′; opened = suc n } →
+      chunksAfter mv (chunkCount ph) n (stack .chunks) ≡ l′ → Wrote n (stack .chunks) l′ ch′ →
+      ((next : E.Obligation) (kept : List ℕ) → rowsAfter mv now next kept rows ≡ rows′) →
+      Clauses T clNow atsNow c′ ls′ → Kept (suc m′) (T .principals) fs′ rows′ →
       Stands T (suc m′) ch′ ph′ p′ →
       Waits T rows′ clNow atsNow (suc m′) c′ es (metIn (seq T (suc m′) fs′ ls′) p′ ++ waiting) →
       Related T (moved (stateOf rows stack (suc n) cl ats) mv) (ob (seq T (suc m′) fs′ ls′) p′ ∷ waiting)
-  moved-alone mv {ph′} {m′} {c′} {ch′} {sv′} change after size clauses kept stands waits =
-      let e : E.Obligation = entry ph′ (suc m′) c′ ch′ sv′ in
-      let long : n < length (set stack (suc n) e) = rw length-set (omega (arith, frame .stack-size, frame .room)) in
-      rw (moved-at rows stack n cl ats mv (entry ph (suc m) c ch sv) (frame .on-top), change, after)
-      (now-open
+  moved-alone mv {l′} {ph′} {m′} {c′} {ch′} change chunks wrote after clauses kept stands waits =
+      let o : E.Obligation = headOf ph′ (suc m′) c′ in
+      let os : List E.Obligation = stack .obligations in
+      let st : Stack = record { obligations = set (set os (suc n) o) n o; chunks = l′; saved = stack .saved } in
+      let long : n < length (set os (suc n) o) = rw length-set (omega (arith, frame .stack-size .obligations, frame .room)) in
+      let low : suc n ≤ suc n = omega arith in
+      rw (
+        moved-at rows stack n cl ats mv now (head-is stack n (frame .on-top)),
+        change,
+        after,
+        chunks,
+        saved-kept (suc n) (suc n) rows (suc m) (stack .saved) low,
+      )
+      (now-open {stack = st}
       (record {
-        stack-size = length-set (set stack (suc n) e) n e ∙ length-set stack (suc n) e ∙ frame .stack-size;
-        cl-size = length-set cl c (topChunk (entry ph (suc m) c ch sv)) ∙ frame .cl-size;
+        stack-size =
+            record {
+              obligations = length-set (set os (suc n) o) n o ∙ length-set os (suc n) o ∙ frame .stack-size .obligations;
+              chunks = wrote .size;
+              saved = frame .stack-size .saved;
+            };
+        cl-size = length-set cl c topNow ∙ frame .cl-size;
         ats-size = length-set ats c (goalIn ph .at .0) ∙ frame .ats-size;
         room = frame .room;
-        on-top = getD-set-same (set stack (suc n) e) n e nothing long;
-        chunk-size = size;
+        on-top = entry-is st n (getD-set-same (set os (suc n) o) n o nothing long) (wrote .here) (saved-is stack n (frame .on-top));
+        chunk-size = sym (ap length (wrote .here)) ∙ block-length l′ n;
         clauses = clauses;
         kept = kept;
       })
-      (down-set (set stack (suc n) e) n n e (omega arith) ∙ down-set stack n (suc n) e (omega arith) ∙ down)
+      (down-under n (omega arith) (under-two stack n o o (wrote .below) (same-self n (stack .saved))) ∙ down)
       stands waits)
 
-  pub moved-fork : (mv : M.Move) {phu phl : D.Phase} {chu chl : List ℕ} {pu pl : Phase} {waiting os : List Obligation} →
-      changed rows n mv (entry ph (suc m) c ch sv) ≡
-      record { lower = entry phl (suc m) c chl (sfRows rows (suc m - 1)); upper = entry phu (suc m) c chu sv; opened = suc n + 1 } →
-      rowsAfter mv (entry ph (suc m) c ch sv) (getD stack (suc n - 2) nothing) rows ≡ rows →
-      suc n < 256 → length chu ≡ 16 → length chl ≡ 16 → Stands T (suc m) chu phu pu → Rests T (suc m) chl phl pl →
+  pub moved-fork : (mv : M.Move) {l′ : List ℕ} {phu phl : D.Phase} {chu chl : List ℕ} {pu pl : Phase} {waiting os : List Obligation} →
+      changeOf mv now (suc n) ≡
+      record { lower = headOf phl (suc m) c; upper = headOf phu (suc m) c; opened = suc n + 1 } →
+      chunksAfter mv (chunkCount ph) n (stack .chunks) ≡ l′ → Wrote n (stack .chunks) l′ chl → block l′ (suc n) ≡ chu →
+      ((next : E.Obligation) (kept : List ℕ) → rowsAfter mv now next kept rows ≡ rows) →
+      suc n < 256 → Stands T (suc m) chu phu pu → Rests T (suc m) chl phl pl →
       Waits T rows cl ats (suc m) c es os → metIn (seq T (suc m) fs ls) pu ++ waiting ≡ ob (seq T (suc m) fs ls) pl ∷ os →
       Related T (moved (stateOf rows stack (suc n) cl ats) mv) (ob (seq T (suc m) fs ls) pu ∷ waiting)
   unfolding downFrom
-  moved-fork mv {phu} {phl} {chu} {chl} {pu} {pl} {waiting} {os} change after room sizeu sizel stands rests waits split =
-      let upper : E.Obligation = entry phu (suc m) c chu sv in
-      let lower : E.Obligation = entry phl (suc m) c chl (sfRows rows m) in
-      let long : suc n < length stack = omega (arith, frame .stack-size) in
-      let long′ : n < length (set stack (suc n) upper) = rw length-set (omega (arith, frame .stack-size)) in
+  moved-fork mv {l′} {phu} {phl} {chu} {chl} {pu} {pl} {waiting} {os} change chunks wrote above after room stands rests waits split =
+      let upper : E.Obligation = headOf phu (suc m) c in
+      let lower : E.Obligation = headOf phl (suc m) c in
+      let obs : List E.Obligation = stack .obligations in
+      let kept : List ℕ = sfRows rows m in
+      let sv′ : List ℕ = putBlock (stack .saved) n kept in
+      let st : Stack = record { obligations = set (set obs (suc n) upper) n lower; chunks = l′; saved = sv′ } in
+      let long : suc n < length obs = omega (arith, frame .stack-size .obligations) in
+      let long′ : n < length (set obs (suc n) upper) = rw length-set (omega (arith, frame .stack-size .obligations)) in
       let other : suc n ≡ n → ⊥ = λ q. omega arith in
       let low : c ≤ c = omega arith in
       let same : suc m ≤ suc m = omega arith in
-      let x : ℕ = topChunk (entry ph (suc m) c ch sv) in
-      let y : ℕ = goalIn ph .at .0 in
-      let below : downFrom (set (set stack (suc n) upper) n lower) (suc n) ≡ lower ∷ es =
-      rw (
-        getD-set-same (set stack (suc n) upper) n lower nothing long′,
-        down-set (set stack (suc n) upper) n n lower (omega arith),
-        down-set stack n (suc n) upper (omega arith),
-        down,
-      ) refl in
-      let wait : Waits T rows (set cl c x) (set ats c y) (suc m) c (lower ∷ es) (metIn (seq T (suc m) fs ls) pu ++ waiting) =
+      let within : n * 16 + 16 ≤ length (stack .saved) = omega (arith, frame .stack-size .saved) in
+      let under = under-two stack n upper lower (wrote .below) (same-put n kept (omega arith) (same-self n (stack .saved))) in
+      let waiter : entryAt st n ≡ entry phl (suc m) c chl kept =
+      entry-is st n (getD-set-same (set obs (suc n) upper) n lower nothing long′) (wrote .here)
+      (block-put (stack .saved) n kept (sf-length rows m) within) in
+      let below : downFrom st (suc n) ≡ entry phl (suc m) c chl kept ∷ es =
+      rw (waiter, down-under n (omega arith) under, down) refl in
+      let wait : Waits T rows clNow atsNow (suc m) c (entry phl (suc m) c chl kept ∷ es) (metIn (seq T (suc m) fs ls) pu ++ waiting) =
       rw split
-      (one-waits {r = rows} same low rests sizel (clauses-set c x y low (frame .clauses)) (frame .kept) (agree-self (suc m) rows) refl
-      (waits-set c x y low waits)) in
-      rw (moved-at rows stack n cl ats mv (entry ph (suc m) c ch sv) (frame .on-top), change, after, one-less m, add-one)
-      (now-open {es = lower ∷ es}
+      (one-waits {r = rows} same low rests (sym (ap length (wrote .here)) ∙ block-length l′ n)
+      (clauses-set c topNow (goalIn ph .at .0) low (frame .clauses)) (frame .kept) (agree-self (suc m) rows) refl
+      (waits-set c topNow (goalIn ph .at .0) low waits)) in
+      rw (
+        moved-at rows stack n cl ats mv now (head-is stack n (frame .on-top)),
+        change,
+        after,
+        chunks,
+        saved-more n rows m (stack .saved),
+        add-one,
+      )
+      (now-open {stack = st} {es = entry phl (suc m) c chl kept ∷ es}
       (record {
-        stack-size = length-set (set stack (suc n) upper) n lower ∙ length-set stack (suc n) upper ∙ frame .stack-size;
-        cl-size = length-set cl c x ∙ frame .cl-size;
-        ats-size = length-set ats c y ∙ frame .ats-size;
+        stack-size =
+            record {
+              obligations = length-set (set obs (suc n) upper) n lower ∙ length-set obs (suc n) upper ∙ frame .stack-size .obligations;
+              chunks = wrote .size;
+              saved = put-length (stack .saved) n kept ∙ frame .stack-size .saved;
+            };
+        cl-size = length-set cl c topNow ∙ frame .cl-size;
+        ats-size = length-set ats c (goalIn ph .at .0) ∙ frame .ats-size;
         room = room;
-        on-top = getD-set-other (set stack (suc n) upper) n (suc n) lower nothing other ∙ getD-set-same stack (suc n) upper nothing long;
-        chunk-size = sizeu;
-        clauses = clauses-set c x y low (frame .clauses);
+        on-top =
+            entry-is st (suc n)
+            (getD-set-other (set obs (suc n) upper) n (suc n) lower nothing other ∙ getD-set-same obs (suc n) upper nothing long) above
+            refl;
+        chunk-size = sym (ap length above) ∙ block-length l′ (suc n);
+        clauses = clauses-set c topNow (goalIn ph .at .0) low (frame .clauses);
         kept = frame .kept;
       })
       below stands wait)
@@ -131,45 +194,58 @@ rests-met s (at-chunks f u m b) = refl
 two-less : (n : ℕ) → suc (suc n) - 2 ≡ n
 two-less n = omega arith
 
-pub moved-close : {T : Reading} {rows cl ats ch sv : List ℕ} {stack es : List E.Obligation} {n m c : ℕ} {ph : D.Phase}
+pub moved-close : {T : Reading} {rows cl ats ch sv : List ℕ} {stack : Stack} {es : List Entry} {n m c : ℕ} {ph : D.Phase}
     {fs : List Fact} {ls : List Lab} {os : List Obligation} →
     Frame T rows stack n cl ats ph m c ch sv fs ls → downFrom stack n ≡ es → Waits T rows cl ats (suc m) c es os →
     Related T (moved (stateOf rows stack (suc n) cl ats) move.Close) os
-unfolding downFrom changeOf rowsAfter
+unfolding downFrom changeOf rowsAfter chunksAfter
 moved-close {rows} {cl} {ats} {ch} {sv} {stack} {n = zero} {m} {c} {ph} frame down none-waits =
-    rw (moved-at rows stack 0 cl ats move.Close (entry ph (suc m) c ch sv) (frame .on-top)) all-closed
+    rw (moved-at rows stack 0 cl ats move.Close (headOf ph (suc m) c) (head-is stack 0 (frame .on-top))) all-closed
 moved-close {n = suc n} frame down none-waits = never cc
 moved-close {n = zero} frame down (one-waits less fewer rests size clauses kept agree saved more) = never cc
 moved-close {T} {rows} {cl} {ats} {ch} {sv} {stack} {n = suc n} {m} {c} {ph} frame down
     (one-waits {m = i} {d} {ph = ph′} {ch = ch′} {sv = sv′} {r} {es} {fs = fs′} {ls = ls′} {p} {os} less fewer rests size clauses kept
     agree saved more) =
-    let top : getD stack n nothing ≡ entry ph′ (suc i) d ch′ sv′ = cc in
+    let top : entryAt stack n ≡ entry ph′ (suc i) d ch′ sv′ = cc in
     let rest : downFrom stack n ≡ es = cc in
-    let e : E.Obligation = entry ph (suc m) c ch sv in
-    let x : ℕ = topChunk e in
+    let o : E.Obligation = headOf ph (suc m) c in
+    let obs : List E.Obligation = stack .obligations in
+    let st : Stack =
+    record { obligations = set (set obs (suc (suc n)) o) (suc n) o; chunks = stack .chunks; saved = stack .saved } in
+    let x : ℕ = topChunk (stack .chunks) (suc n) ph in
     let y : ℕ = goalIn ph .at .0 in
     let same : suc i ≤ suc i = omega arith in
-    let other : n ≡ suc n → ⊥ = λ q. omega arith in
-    let other′ : n ≡ suc (suc n) → ⊥ = λ q. omega arith in
-    let after : rowsAfter move.Close e (getD stack (suc (suc n) - 2) nothing) rows ≡ putSf rows i (sfRows r i) =
-    rw (two-less n, top, one-less i, saved) refl in
+    let fall : suc (suc n) - 1 ≤ suc (suc n) = omega arith in
+    let keep = saved-kept (suc (suc n)) (suc (suc n) - 1) rows (suc m) (stack .saved) fall in
+    let next : getD obs (suc (suc n) - 2) nothing ≡ headOf ph′ (suc i) d =
+    ap (λ (k : ℕ). getD obs k nothing) (two-less n) ∙ head-is stack n top in
+    let put : block (stack .saved) (suc (suc n) - 2) ≡ sfRows r i =
+    ap (block (stack .saved)) (two-less n) ∙ saved-is stack n top ∙ saved in
+    let after : rowsAfter move.Close o (getD obs (suc (suc n) - 2) nothing) (block (stack .saved) (suc (suc n) - 2)) rows ≡
+    putSf rows i (sfRows r i) =
+    ap (λ (x : E.Obligation). putSf rows (x .worlds - 1) (block (stack .saved) (suc (suc n) - 2))) next ∙
+    ap (putSf rows (suc i - 1)) put ∙ ap (λ (k : ℕ). putSf rows k (sfRows r i)) (one-less i) in
     let room : n < 256 = omega (arith, frame .room) in
     let wait : Waits T (putSf rows i (sfRows r i)) (set cl c x) (set ats c y) (suc i) d es (metIn (seq T (suc i) fs′ ls′) p ++ os) =
     rw (rests-met (seq T (suc i) fs′ ls′) rests)
     (waits-set c x y fewer (waits-rows (agree-put (suc i) i rows (sfRows r i) same) more)) in
-    rw (moved-at rows stack (suc n) cl ats move.Close e (frame .on-top), after, one-less (suc n))
-    (now-open
+    let under = under-two stack (suc n) o o (same-self (suc n) (stack .chunks)) (same-self (suc n) (stack .saved)) in
+    rw (moved-at rows stack (suc n) cl ats move.Close o (head-is stack (suc n) (frame .on-top)), keep, after, one-less (suc n))
+    (now-open {stack = st}
     (record {
-      stack-size = length-set (set stack (suc (suc n)) e) (suc n) e ∙ length-set stack (suc (suc n)) e ∙ frame .stack-size;
+      stack-size =
+          record {
+            obligations = length-set (set obs (suc (suc n)) o) (suc n) o ∙ length-set obs (suc (suc n)) o ∙ frame .stack-size .obligations;
+            chunks = frame .stack-size .chunks;
+            saved = frame .stack-size .saved;
+          };
       cl-size = length-set cl c x ∙ frame .cl-size;
       ats-size = length-set ats c y ∙ frame .ats-size;
       room = room;
-      on-top =
-          getD-set-other (set stack (suc (suc n)) e) (suc n) n e nothing other ∙
-          getD-set-other stack (suc (suc n)) n e nothing other′ ∙ top;
+      on-top = entry-under n (omega arith) under ∙ top;
       chunk-size = size;
       clauses = clauses-set c x y fewer clauses;
       kept = kept-back kept agree;
     })
-    (down-set (set stack (suc (suc n)) e) n (suc n) e (omega arith) ∙ down-set stack n (suc (suc n)) e (omega arith) ∙ rest)
+    (down-under n (omega arith) under ∙ rest)
     (at-rest rests) wait)

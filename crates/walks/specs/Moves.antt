@@ -19,29 +19,30 @@ use Rattle.moves.specs.declared.Phase.the-variants as phase
 use Rattle.moves.specs.declared.Move.the-variants as move
 use Rattle.moves.specs.Steps.{pick, principal}
 use Rattle.moves.specs.Judge.{rowAt}
-use Rattle.machine.specs.declared.Obligation as E
 use Rattle.machine.specs.Change as numbers
-use Rattle.machine.specs.Change.{topChunk, goalIn, changeOf, rowsAfter}
-use Rattle.machine.specs.Machine.{State, moved}
+use Rattle.machine.specs.Change.{goalIn, changeOf}
+use Rattle.machine.specs.Tables.{topChunk, splitChunks, caseChunks, chunksAfter, rowsAfter}
+use Rattle.machine.specs.Machine.{Stack, State, moved}
 use Rattle.walks.specs.Trees.{Reading}
 use Rattle.facts.specs.Grown.{kept-le, kept-by, agree-le, agree-by}
 use Rattle.facts.specs.Noted.{kept-note, agree-note}
-use Rattle.walks.specs.Related.{stateOf, entry, downFrom, chunksOf, Below, Rests, at-goal, at-chunks, Stands, at-rest, in-focus}
+use Rattle.walks.specs.Related.{Entry, stateOf, downFrom, chunksOf, Below, Rests, at-goal, at-chunks, Stands, at-rest, in-focus}
 use Rattle.walks.specs.Related.{Clauses, seq, Waits, metIn, Frame, Related}
 use Rattle.walks.specs.Views.{chunks-set, below-less, below-more, clauses-set, clauses-pushed, waits-set, waits-rows, waits-wider}
-use Rattle.walks.specs.Moved.{one-less, moved-alone, moved-fork, rests-met}
+use Rattle.walks.specs.Chunks.{one-less, wrote-set, wrote-above, wrote-none, wrote-copy, case-above, top-is}
+use Rattle.walks.specs.Moved.{moved-alone, moved-fork, rests-met}
 
 -- Of any phase.
-module _ {T : Reading} {rows cl ats ch sv : List ℕ} {stack es : List E.Obligation} {n m c : ℕ} {ph : D.Phase} {fs : List Fact}
+module _ {T : Reading} {rows cl ats ch sv : List ℕ} {stack : Stack} {es : List Entry} {n m c : ℕ} {ph : D.Phase} {fs : List Fact}
     {ls : List Lab} (frame : Frame T rows stack n cl ats ph m c ch sv fs ls) (down : downFrom stack n ≡ es) where
   pub moved-go : {ph′ : D.Phase} {p′ : Phase} {waiting : List Obligation} → Stands T (suc m) ch ph′ p′ →
       Waits T rows cl ats (suc m) c es (metIn (seq T (suc m) fs ls) p′ ++ waiting) →
       Related T (moved (stateOf rows stack (suc n) cl ats) (move.Go ph′)) (ob (seq T (suc m) fs ls) p′ ∷ waiting)
-  unfolding changeOf rowsAfter
+  unfolding changeOf chunksAfter rowsAfter
   moved-go {ph′} stands waits =
       let low : c ≤ c = omega arith in
-      let x : ℕ = topChunk (entry ph (suc m) c ch sv) in
-      moved-alone frame down (move.Go ph′) {sv′ = sv} refl refl (frame .chunk-size)
+      let x : ℕ = topChunk (stack .chunks) n ph in
+      moved-alone frame down (move.Go ph′) refl refl (wrote-none frame) (λ next kept. refl)
       (clauses-set c x (goalIn ph .at .0) low (frame .clauses)) (frame .kept) stands
       (waits-set c x (goalIn ph .at .0) low waits)
 
@@ -49,9 +50,9 @@ module _ {T : Reading} {rows cl ats ch sv : List ℕ} {stack es : List E.Obligat
       Waits T rows cl ats (suc m) c es waiting →
       Related T (moved (stateOf rows stack (suc n) cl ats) (move.Both (numbers.lab f u) (numbers.lab h u)))
       (ob (seq T (suc m) fs ls) (goal (lab (T .tree f) u)) ∷ ob (seq T (suc m) fs ls) (goal (lab (T .tree h) u)) ∷ waiting)
-  unfolding changeOf rowsAfter metIn
+  unfolding changeOf chunksAfter rowsAfter metIn
   moved-both {f} {h} {u} p q inside room waits =
-      moved-fork frame down (move.Both (numbers.lab f u) (numbers.lab h u)) refl refl room (frame .chunk-size) (frame .chunk-size)
+      moved-fork frame down (move.Both (numbers.lab f u) (numbers.lab h u)) refl refl (wrote-none frame) refl (λ next kept. refl) room
       (at-rest (at-goal p inside)) (at-goal q inside) waits refl
 
   pub moved-meet : {g h v w q : ℕ} {met : List Lab} {waiting : List Obligation} (t : ℕ) → g < T .formulas → h < T .formulas → v < suc m →
@@ -60,53 +61,54 @@ module _ {T : Reading} {rows cl ats ch sv : List ℕ} {stack es : List E.Obligat
       Related T
       (moved (stateOf rows stack (suc n) cl ats) (move.Meet (numbers.lab g v) (phase.Focus (numbers.lab h v) (numbers.lab t w))))
       (ob (seq T (suc m) fs ls) (focus (lab (T .tree h) v) q w (lab (T .tree g) v ∷ met)) ∷ waiting)
-  unfolding changeOf rowsAfter metIn
+  unfolding changeOf chunksAfter rowsAfter metIn
   moved-meet {g} {h} {v} {w} t p r inside aimed same room d waits =
-      moved-fork frame down (move.Meet (numbers.lab g v) (phase.Focus (numbers.lab h v) (numbers.lab t w))) refl refl room
-      (frame .chunk-size) (frame .chunk-size) (in-focus r aimed same) (at-goal p inside) waits refl
+      moved-fork frame down (move.Meet (numbers.lab g v) (phase.Focus (numbers.lab h v) (numbers.lab t w))) refl refl
+      (wrote-none frame) refl (λ next kept. refl) room (in-focus r aimed same) (at-goal p inside) waits refl
 
 -- Of a goal: a new world.
-module _ {T : Reading} {rows cl ats ch sv : List ℕ} {stack es : List E.Obligation} {n m c t u : ℕ} {fs : List Fact}
+module _ {T : Reading} {rows cl ats ch sv : List ℕ} {stack : Stack} {es : List Entry} {n m c t u : ℕ} {fs : List Fact}
     {ls : List Lab} (frame : Frame T rows stack n cl ats (phase.Goal (numbers.lab t u)) m c ch sv fs ls) (down : downFrom stack n ≡ es)
     (inside : u < suc m) (room : suc m < 32) {waiting : List Obligation} (waits : Waits T rows cl ats (suc m) c es waiting) where
   pub moved-less : {f h : ℕ} → f < T .formulas → h < T .formulas →
       Related T (moved (stateOf rows stack (suc n) cl ats) (move.Less f h))
       (ob (seq T (suc (suc m)) (le u (suc m) ∷ fs) ls) (chunks (T .tree f) [] (lab (T .tree h) (suc m))) ∷ waiting)
-  unfolding changeOf rowsAfter goalIn metIn chunksOf numbers.newWorld
+  unfolding changeOf chunksAfter rowsAfter goalIn metIn chunksOf numbers.newWorld
   moved-less {f} {h} p q =
       let low : c ≤ c = omega arith in
       let old : suc m ≤ suc m = omega arith in
       let more : suc m ≤ suc (suc m) = omega arith in
-      let x : ℕ = topChunk (entry (phase.Goal (numbers.lab t u)) (suc m) c ch sv) in
+      let x : ℕ = topChunk (stack .chunks) n (phase.Goal (numbers.lab t u)) in
       let long : 0 < length ch = omega (arith, frame .chunk-size) in
       let top : getD (set ch 0 f) 0 0 ≡ f = getD-set-same ch 0 f 0 long in
       let first : Below (T .formulas) 0 ch = record { each = λ j g. absurd (omega arith) } in
       let some : 0 < 16 = omega arith in
+      let inner : n < 257 = omega (arith, frame .room) in
       let stands : Stands T (suc (suc m)) (set ch 0 f) (phase.Chunks (numbers.lab h (suc m)) 1)
       (chunks (T .tree f) [] (lab (T .tree h) (suc m))) =
       subst (λ (z : ℕ). Stands T (suc (suc m)) (set ch 0 f) (phase.Chunks (numbers.lab h (suc m)) 1)
       (chunks (T .tree z) [] (lab (T .tree h) (suc m)))) top
       (at-rest (at-chunks q refl some (below-more f long p first))) in
-      moved-alone frame down (move.Less f h) {sv′ = sv} (rw add-one refl) refl (length-set ch 0 f ∙ frame .chunk-size)
+      moved-alone frame down (move.Less f h) (rw add-one refl) refl (wrote-set 0 f some inner (wrote-none frame)) (λ next kept. refl)
       (clauses-set c x u low (frame .clauses)) (kept-le (frame .kept) inside room) stands
       (waits-set c x u low (waits-wider more low (waits-rows (agree-le (suc m) u (suc m) rows old) waits)))
 
   pub moved-speak : {a f : ℕ} → a < T .principals → f < T .formulas →
       Related T (moved (stateOf rows stack (suc n) cl ats) (move.Speak (principal a) f))
       (ob (seq T (suc (suc m)) (by a u (suc m) ∷ fs) ls) (goal (lab (T .tree f) (suc m))) ∷ waiting)
-  unfolding changeOf rowsAfter goalIn metIn numbers.newWorld
+  unfolding changeOf chunksAfter rowsAfter goalIn metIn numbers.newWorld
   moved-speak {a} {f} p q =
       let low : c ≤ c = omega arith in
       let old : suc m ≤ suc m = omega arith in
       let more : suc m ≤ suc (suc m) = omega arith in
       let inner : suc m < suc (suc m) = omega arith in
-      let x : ℕ = topChunk (entry (phase.Goal (numbers.lab t u)) (suc m) c ch sv) in
-      moved-alone frame down (move.Speak (principal a) f) {ch′ = ch} {sv′ = sv} (rw add-one refl) refl (frame .chunk-size)
+      let x : ℕ = topChunk (stack .chunks) n (phase.Goal (numbers.lab t u)) in
+      moved-alone frame down (move.Speak (principal a) f) (rw add-one refl) refl (wrote-none frame) (λ next kept. refl)
       (clauses-set c x u low (frame .clauses)) (kept-by (frame .kept) p inside room) (at-rest (at-goal q inner))
       (waits-set c x u low (waits-wider more low (waits-rows (agree-by (suc m) a u (suc m) rows old) waits)))
 
 -- Of chunks: the topmost one is number i of the array.
-module _ {T : Reading} {rows cl ats ch sv : List ℕ} {stack es : List E.Obligation} {n m c t u i : ℕ} {fs : List Fact}
+module _ {T : Reading} {rows cl ats ch sv : List ℕ} {stack : Stack} {es : List Entry} {n m c t u i : ℕ} {fs : List Fact}
     {ls : List Lab} (frame : Frame T rows stack n cl ats (phase.Chunks (numbers.lab t u) (suc i)) m c ch sv fs ls)
     (down : downFrom stack n ≡ es) (named : t < T .formulas) (newest : suc u ≡ suc m) (few : i < 16)
     (known : Below (T .formulas) (suc i) ch) {waiting : List Obligation} (waits : Waits T rows cl ats (suc m) c es waiting) where
@@ -144,31 +146,31 @@ module _ {T : Reading} {rows cl ats ch sv : List ℕ} {stack es : List E.Obligat
 
   pub moved-drop : Related T (moved now move.Drop)
       (ob here (behind rest aim) ∷ waiting)
-  unfolding changeOf rowsAfter numbers.popped numbers.chunkCount goalIn
+  unfolding changeOf chunksAfter rowsAfter numbers.popped numbers.chunkCount goalIn
   moved-drop =
       let low : c ≤ c = omega arith in
       let less : i ≤ suc i = omega arith in
-      let x : ℕ = topChunk (entry (phase.Chunks goalLab (suc i)) (suc m) c ch sv) in
+      let x : ℕ = topChunk (stack .chunks) n (phase.Chunks goalLab (suc i)) in
       let rests = popped-rests i few (below-less less known) in
-      moved-alone frame down move.Drop {ph′ = numbers.behind goalLab i} {ch′ = ch} {sv′ = sv} (rw (one-less i) refl) refl (frame .chunk-size)
+      moved-alone frame down move.Drop {ph′ = numbers.behind goalLab i} (rw (one-less i) refl) refl (wrote-none frame) (λ next kept. refl)
       (clauses-set c x u low (frame .clauses)) (frame .kept) (at-rest rests)
       (waits-on here (behind rest aim) rests (waits-set c x u low waits))
 
   pub moved-note : {a b : ℕ} → a < T .principals → b < T .principals →
       Related T (moved now (move.Note (principal a) (principal b)))
       (ob (seq T (suc m) (sf u a b ∷ fs) ls) (behind rest aim) ∷ waiting)
-  unfolding changeOf rowsAfter numbers.popped numbers.chunkCount goalIn
+  unfolding changeOf chunksAfter rowsAfter numbers.popped numbers.chunkCount goalIn
   moved-note {a} {b} p q =
       let low : c ≤ c = omega arith in
       let less : i ≤ suc i = omega arith in
       let old : suc m ≤ suc m = omega arith in
       let at : m ≡ u = omega arith in
-      let x : ℕ = topChunk (entry (phase.Chunks goalLab (suc i)) (suc m) c ch sv) in
+      let x : ℕ = topChunk (stack .chunks) n (phase.Chunks goalLab (suc i)) in
       let rests = popped-rests i few (below-less less known) in
       let kept : Kept (suc m) (T .principals) (sf u a b ∷ fs) (noted rows m a b) =
       subst (λ (z : ℕ). Kept (suc m) (T .principals) (sf z a b ∷ fs) (noted rows m a b)) at (kept-note (frame .kept) p q) in
-      moved-alone frame down (move.Note (principal a) (principal b)) {rows′ = noted rows m a b} {ph′ = numbers.behind goalLab i} {ch′ = ch}
-      {sv′ = sv} (rw (one-less i) refl) (rw (one-less m) refl) (frame .chunk-size)
+      moved-alone frame down (move.Note (principal a) (principal b)) {rows′ = noted rows m a b} {ph′ = numbers.behind goalLab i}
+      (rw (one-less i) refl) refl (wrote-none frame) (λ next kept. ap (λ (k : ℕ). noted rows k a b) (one-less m))
       (clauses-set c x u low (frame .clauses)) kept (at-rest rests)
       (waits-on (seq T (suc m) (sf u a b ∷ fs) ls) (behind rest aim) rests
       (waits-set c x u low (waits-rows (agree-note (suc m) m a b rows old) waits)))
@@ -176,33 +178,34 @@ module _ {T : Reading} {rows cl ats ch sv : List ℕ} {stack es : List E.Obligat
   pub moved-push : c < 256 →
       Related T (moved now move.Push)
       (ob (seq T (suc m) fs (ls ++ (lab (T .tree (getD ch i 0)) u ∷ []))) (behind rest aim) ∷ waiting)
-  unfolding changeOf rowsAfter numbers.popped numbers.chunkCount goalIn topChunk
+  unfolding changeOf chunksAfter rowsAfter numbers.popped numbers.chunkCount goalIn
   moved-push room =
       let low : c ≤ c = omega arith in
       let up : c ≤ suc c = omega arith in
       let less : i ≤ suc i = omega arith in
       let old : suc m ≤ suc m = omega arith in
       let last : i < suc i = omega arith in
-      let e : E.Obligation = entry (phase.Chunks goalLab (suc i)) (suc m) c ch sv in
-      let is : topChunk e ≡ getD ch i 0 = rw (one-less i) refl in
+      let x : ℕ = topChunk (stack .chunks) n (phase.Chunks goalLab (suc i)) in
+      let is : x ≡ getD ch i 0 = top-is frame few in
       let rests = popped-rests i few (below-less less known) in
-      let clauses : Clauses T (set cl c (topChunk e)) (set ats c u) (suc c) (ls ++ (lab (T .tree (getD ch i 0)) u ∷ [])) =
+      let clauses : Clauses T (set cl c x) (set ats c u) (suc c) (ls ++ (lab (T .tree (getD ch i 0)) u ∷ [])) =
       subst (λ (z : ℕ). Clauses T (set cl c z) (set ats c u) (suc c) (ls ++ (lab (T .tree (getD ch i 0)) u ∷ []))) (sym is)
       (clauses-pushed (getD ch i 0) u (known .each i last) room (frame .cl-size) (frame .ats-size) (frame .clauses)) in
-      moved-alone frame down move.Push {ph′ = numbers.behind goalLab i} {c′ = suc c} {ch′ = ch} {sv′ = sv}
-      (rw (one-less i, add-one) refl) refl (frame .chunk-size) clauses (frame .kept) (at-rest rests)
+      moved-alone frame down move.Push {ph′ = numbers.behind goalLab i} {c′ = suc c}
+      (rw (one-less i, add-one) refl) refl (wrote-none frame) (λ next kept. refl) clauses (frame .kept) (at-rest rests)
       (waits-on (seq T (suc m) fs (ls ++ (lab (T .tree (getD ch i 0)) u ∷ []))) (behind rest aim) rests
-      (waits-wider old up (waits-set c (topChunk e) u low waits)))
+      (waits-wider old up (waits-set c x u low waits)))
 
   pub moved-split : {f h : ℕ} → f < T .formulas → h < T .formulas → suc i < 16 →
       Related T (moved now (move.Split f h)) (ob here (chunks (T .tree f) (T .tree h ∷ rest) aim) ∷ waiting)
-  unfolding changeOf rowsAfter numbers.split numbers.chunkCount goalIn chunksOf metIn
+  unfolding changeOf chunksAfter splitChunks rowsAfter numbers.oneMore numbers.chunkCount goalIn chunksOf metIn
   moved-split {f} {h} p q room =
       let low : c ≤ c = omega arith in
       let over : i ≤ i = omega arith in
       let over′ : suc i ≤ suc i = omega arith in
       let less : i ≤ suc i = omega arith in
-      let x : ℕ = topChunk (entry (phase.Chunks goalLab (suc i)) (suc m) c ch sv) in
+      let x : ℕ = topChunk (stack .chunks) n (phase.Chunks goalLab (suc i)) in
+      let inner : n < 257 = omega (arith, frame .room) in
       let long : i < length ch = omega (arith, frame .chunk-size) in
       let long′ : suc i < length (set ch i h) = rw length-set (omega (arith, frame .chunk-size)) in
       let held : List ℕ = set (set ch i h) (suc i) f in
@@ -214,8 +217,8 @@ module _ {T : Reading} {rows cl ats ch sv : List ℕ} {stack es : List E.Obligat
       at-rest
       (chunks-are (suc i) held (T .tree f) (T .tree h ∷ rest) (ap (T .tree) top) under
       (at-chunks named newest room (below-more f long′ p (below-more h long q (below-less less known))))) in
-      moved-alone frame down (move.Split f h) {ch′ = held} {sv′ = sv} (rw (one-less i, add-one) refl) refl
-      (length-set (set ch i h) (suc i) f ∙ length-set ch i h ∙ frame .chunk-size)
+      moved-alone frame down (move.Split f h) (rw add-one refl) (rw (one-less i) refl)
+      (wrote-set (suc i) f room inner (wrote-set i h few inner (wrote-none frame))) (λ next kept. refl)
       (clauses-set c x u low (frame .clauses)) (frame .kept) stands (waits-set c x u low waits)
 
   -- Another chunk in the topmost one's place.
@@ -229,7 +232,9 @@ module _ {T : Reading} {rows cl ats ch sv : List ℕ} {stack es : List E.Obligat
 
   pub moved-case : {f h : ℕ} → f < T .formulas → h < T .formulas → suc n < 256 →
       Related T (moved now (move.Case f h)) (ob here (chunks (T .tree f) rest aim) ∷ ob here (chunks (T .tree h) rest aim) ∷ waiting)
-  unfolding changeOf rowsAfter numbers.chunkCount metIn
+  unfolding changeOf chunksAfter caseChunks rowsAfter numbers.chunkCount metIn
   moved-case {f} {h} p q room =
-      moved-fork frame down (move.Case f h) {chu = set ch i f} {chl = set ch i h} (rw (one-less i) refl) refl room
-      (length-set ch i f ∙ frame .chunk-size) (length-set ch i h ∙ frame .chunk-size) (at-rest (swapped f p)) (swapped h q) waits refl
+      let inner : n < 257 = omega (arith, frame .room) in
+      moved-fork frame down (move.Case f h) refl (rw (one-less i, add-one) refl)
+      (wrote-above i f (wrote-set i h few inner (wrote-copy frame))) (case-above frame i f h few room) (λ next kept. refl) room
+      (at-rest (swapped f p)) (swapped h q) waits refl

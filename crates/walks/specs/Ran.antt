@@ -23,13 +23,13 @@ use Rattle.moves.specs.Judge.{judgeStep}
 use Rattle.machine.specs.declared.Obligation as E
 use Rattle.machine.specs.declared.Walked.{Walked}
 use Rattle.machine.specs.declared.Walked.the-variants.{Granted, Refused}
-use Rattle.machine.specs.Change as numbers
-use Rattle.machine.specs.Change.{topChunk}
-use Rattle.machine.specs.Machine.{State, nothing, obligationAt, stepIn, moved, judgedNow, goOn, ranFrom}
+use Rattle.machine.specs.Tables.{topChunk}
+use Rattle.machine.specs.Machine.{Stack, State, nothing, obligationAt, stepIn, moved, judgedNow, goOn, ranFrom}
 use Rattle.walks.specs.Trees.{Reading}
-use Rattle.walks.specs.Related.{stateOf, entry, downFrom, at-goal, at-chunks, Stands, at-rest, in-focus, seq, Waits, metIn, Frame}
+use Rattle.walks.specs.Related.{Entry, stateOf, headOf, downFrom, at-goal, at-chunks, Stands, at-rest, in-focus, seq, Waits, metIn, Frame}
 use Rattle.walks.specs.Related.{Related, all-closed, now-open}
-use Rattle.walks.specs.Moved.{one-less}
+use Rattle.walks.specs.Views.{head-is}
+use Rattle.walks.specs.Chunks.{one-less, top-is}
 use Rattle.walks.specs.Match.{Match, no-fit, no-room, fits, stepIs}
 use Rattle.walks.specs.GoalSteps.{goal-steps}
 use Rattle.walks.specs.FocusSteps.{focus-steps}
@@ -40,33 +40,33 @@ unfoldable pub walkedAnswer : Walked → Answer
 walkedAnswer Granted = answer 0 0
 walkedAnswer (Refused r) = answer (r .number) (r .step)
 
-judged-at : (forms rows : List ℕ) (stack : List E.Obligation) (n : ℕ) (cl ats : List ℕ) (x : Step) (e : E.Obligation) →
-    getD stack n nothing ≡ e →
+judged-at : (forms rows : List ℕ) (stack : Stack) (n : ℕ) (cl ats : List ℕ) (x : Step) (o : E.Obligation) →
+    getD (stack .obligations) n nothing ≡ o →
     judgedNow forms (stateOf rows stack (suc n) cl ats) x ≡
-    judgeStep forms rows cl ats (e .phase) (topChunk e) x (e .worlds) (e .clauses) (suc n)
+    judgeStep forms rows cl ats (o .phase) (topChunk (stack .chunks) n (o .phase)) x (o .worlds) (o .clauses) (suc n)
 unfolding judgedNow obligationAt
-judged-at forms rows stack n cl ats x e top =
-    let h : getD stack (suc n - 1) nothing ≡ e = rw (one-less n) top in
-    rw h refl
+judged-at forms rows stack n cl ats x o top =
+    let h : getD (stack .obligations) (suc n - 1) nothing ≡ o = rw (one-less n) top in
+    rw (h, one-less n) refl
 
-by-phase : {T : Reading} {rows cl ats ch sv : List ℕ} {stack es : List E.Obligation} {n m c : ℕ} {ph : D.Phase} {fs : List Fact}
+by-phase : {T : Reading} {rows cl ats ch sv : List ℕ} {stack : Stack} {es : List Entry} {n m c : ℕ} {ph : D.Phase} {fs : List Fact}
     {ls : List Lab} {p : Phase} {waiting : List Obligation} →
     Frame T rows stack n cl ats ph m c ch sv fs ls → downFrom stack n ≡ es → Stands T (suc m) ch ph p →
     Waits T rows cl ats (suc m) c es (metIn (seq T (suc m) fs ls) p ++ waiting) → (x : Step) →
     Match T (stateOf rows stack (suc n) cl ats) waiting
-    (judgeStep (T .table) rows cl ats ph (topChunk (entry ph (suc m) c ch sv)) x (suc m) c (suc n))
+    (judgeStep (T .table) rows cl ats ph (topChunk (stack .chunks) n ph) x (suc m) c (suc n))
     (stepOn (stepIs x) (seq T (suc m) fs ls) p)
-unfolding judgeStep metIn topChunk numbers.chunkCount
+unfolding judgeStep metIn
 by-phase frame down (at-rest (at-goal named inside)) waits x = goal-steps frame down named inside waits x
 by-phase frame down (at-rest (at-chunks {m = i} named newest few known)) waits x =
-    rw (one-less i) (chunk-steps frame down named newest few known waits x)
+    rw (top-is frame few) (chunk-steps frame down named newest few known waits x)
 by-phase {waiting} frame down (in-focus {met} named aimed atom) waits x = focus-steps frame down named aimed atom met waiting waits x
 
 -- One step.
 stepped : {T : Reading} {s : State} {o : Obligation} {waiting : List Obligation} → Related T s (o ∷ waiting) → (x : Step) →
     Match T s waiting (judgedNow (T .table) s x) (stepOn (stepIs x) (o .sequent) (o .phase))
 stepped {T} (now-open {rows} {cl} {ats} {ch} {sv} {stack} {n} {m} {c} {ph} frame down stands waits) x =
-    rw (judged-at (T .table) rows stack n cl ats x (entry ph (suc m) c ch sv) (frame .on-top)) (by-phase frame down stands waits x)
+    rw (judged-at (T .table) rows stack n cl ats x (headOf ph (suc m) c) (head-is stack n (frame .on-top))) (by-phase frame down stands waits x)
 
 -- What follows a step.
 after-match : {T : Reading} {s : State} {waiting : List Obligation} {j : Judged} {mv : Move} → Match T s waiting j mv →

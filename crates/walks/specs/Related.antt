@@ -15,20 +15,41 @@ use Rattle.moves.specs.declared.Phase.the-variants as phase
 use Rattle.moves.specs.Judge.{rowAt}
 use Rattle.machine.specs.declared.Obligation as E
 use Rattle.machine.specs.Change as numbers
-use Rattle.machine.specs.Machine.{State, nothing}
+use Rattle.machine.specs.Tables.{block}
+use Rattle.machine.specs.Machine.{Stack, State, nothing}
 use Rattle.walks.specs.Trees.{Reading}
 
-abbrev pub stateOf : List ℕ → List E.Obligation → ℕ → List ℕ → List ℕ → State
+abbrev pub stateOf : List ℕ → Stack → ℕ → List ℕ → List ℕ → State
 stateOf rows stack opened cl ats =
     record { rows = rows; stack = stack; opened = opened; clauses = cl; ats = ats }
 
-abbrev pub entry : D.Phase → ℕ → ℕ → List ℕ → List ℕ → E.Obligation
-entry ph n c ch sv = record { phase = ph; worlds = n; clauses = c; chunks = ch; saved = sv }
+-- An entry of the stack: what its tables say of one place.
+pub record Entry : Type 0 where
+  pub head : E.Obligation
+  pub chunks : List ℕ
+  pub saved : List ℕ
+
+abbrev pub headOf : D.Phase → ℕ → ℕ → E.Obligation
+headOf ph n c = record { phase = ph; worlds = n; clauses = c }
+
+abbrev pub entry : D.Phase → ℕ → ℕ → List ℕ → List ℕ → Entry
+entry ph n c ch sv = record { head = headOf ph n c; chunks = ch; saved = sv }
+
+unfoldable pub entryAt : Stack → ℕ → Entry
+unfolding block
+entryAt stack i =
+    record { head = getD (stack .obligations) i nothing; chunks = block (stack .chunks) i; saved = block (stack .saved) i }
 
 -- The first n entries of the stack, the last of them first.
-unfoldable pub downFrom : List E.Obligation → ℕ → List E.Obligation
+unfoldable pub downFrom : Stack → ℕ → List Entry
+unfolding entryAt
 downFrom stack zero = []
-downFrom stack (suc n) = getD stack n nothing ∷ downFrom stack n
+downFrom stack (suc n) = entryAt stack n ∷ downFrom stack n
+
+pub record Sized (stack : Stack) : Type 0 where
+  pub obligations : length (stack .obligations) ≡ 257
+  pub chunks : length (stack .chunks) ≡ 4112
+  pub saved : length (stack .saved) ≡ 4112
 
 -- The first n clauses of the clause tables, and the first n chunks of an obligation's, the last on top.
 unfoldable pub labs : (ℕ → Form) → ℕ → List ℕ → List ℕ → List Lab
@@ -65,9 +86,9 @@ abbrev pub seq : Reading → ℕ → List Fact → List Lab → Sequent
 seq T n fs ls = record { principals = T .principals; worlds = n; facts = fs; clauses = ls }
 
 -- The entries es, from the top down, are the waiting obligations os; none has more worlds than n or more clauses than c.
-pub data Waits (T : Reading) (rows cl ats : List ℕ) : ℕ → ℕ → List E.Obligation → List Obligation → Type 0 where
+pub data Waits (T : Reading) (rows cl ats : List ℕ) : ℕ → ℕ → List Entry → List Obligation → Type 0 where
   none-waits : {n c : ℕ} → Waits T rows cl ats n c [] []
-  one-waits : {n c m d : ℕ} {ph : D.Phase} {ch sv r : List ℕ} {es : List E.Obligation} {fs : List Fact} {ls : List Lab}
+  one-waits : {n c m d : ℕ} {ph : D.Phase} {ch sv r : List ℕ} {es : List Entry} {fs : List Fact} {ls : List Lab}
       {p : Phase} {os : List Obligation} →
       suc m ≤ n → d ≤ c → Rests T (suc m) ch ph p → length ch ≡ 16 → Clauses T cl ats d ls →
       Kept (suc m) (T .principals) fs r → Agree (suc m) r rows → sv ≡ sfRows r m → Waits T rows cl ats (suc m) d es os →
@@ -80,20 +101,20 @@ metIn s (chunks c cs g) = []
 metIn s (focus d p w met) = map (λ (g : Lab). ob s (goal g)) met
 
 -- The tables and the current entry, which is number n from the bottom.
-pub record Frame (T : Reading) (rows : List ℕ) (stack : List E.Obligation) (n : ℕ) (cl ats : List ℕ)
+pub record Frame (T : Reading) (rows : List ℕ) (stack : Stack) (n : ℕ) (cl ats : List ℕ)
     (ph : D.Phase) (m c : ℕ) (ch sv : List ℕ) (fs : List Fact) (ls : List Lab) : Type 0 where
-  pub stack-size : length stack ≡ 257
+  pub stack-size : Sized stack
   pub cl-size : length cl ≡ 257
   pub ats-size : length ats ≡ 257
   pub room : n < 256
-  pub on-top : getD stack n nothing ≡ entry ph (suc m) c ch sv
+  pub on-top : entryAt stack n ≡ entry ph (suc m) c ch sv
   pub chunk-size : length ch ≡ 16
   pub clauses : Clauses T cl ats c ls
   pub kept : Kept (suc m) (T .principals) fs rows
 
 pub data Related (T : Reading) : State → List Obligation → Type 0 where
-  all-closed : {rows cl ats : List ℕ} {stack : List E.Obligation} → Related T (stateOf rows stack 0 cl ats) []
-  now-open : {rows cl ats ch sv : List ℕ} {stack es : List E.Obligation} {n m c : ℕ} {ph : D.Phase} {fs : List Fact}
+  all-closed : {rows cl ats : List ℕ} {stack : Stack} → Related T (stateOf rows stack 0 cl ats) []
+  now-open : {rows cl ats ch sv : List ℕ} {stack : Stack} {es : List Entry} {n m c : ℕ} {ph : D.Phase} {fs : List Fact}
       {ls : List Lab} {p : Phase} {waiting : List Obligation} →
       Frame T rows stack n cl ats ph m c ch sv fs ls → downFrom stack n ≡ es → Stands T (suc m) ch ph p →
       Waits T rows cl ats (suc m) c es (metIn (seq T (suc m) fs ls) p ++ waiting) →

@@ -1,13 +1,10 @@
--- `after_less` meets its contract: each call gives a part of what it states, and a chunk more leaves the count of worlds.
+-- `after_less` meets its contract: each call gives a part of the definition.
 use borrow.Author.Needs.{needs}
 use Rattle.machine.proofs.changes.after_less.Statement.{statement}
 use Rattle.machine.proofs.changes.after_less.Tie as tie
 
-with-chunk-requires : tie.Need-with-chunk-requires
-with-chunk-requires c κs = search needs
-
 new-world-requires : tie.Need-new-world-requires
-new-world-requires c κs = rw (c .with-chunk .ensures) (c .before .pre)
+new-world-requires c κs = search needs
 
 only-one-requires : tie.Need-only-one-requires
 only-one-requires c κs = search needs
@@ -16,5 +13,4 @@ returns : tie.Need-returns
 returns c = cc
 
 pub after-less-spec : {M : Type 1} → statement M
-after-less-spec =
-    tie.close (tie.spec with-chunk-requires new-world-requires only-one-requires returns)
+after-less-spec = tie.close (tie.spec new-world-requires only-one-requires returns)

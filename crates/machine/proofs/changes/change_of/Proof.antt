@@ -64,19 +64,19 @@ enum-told-4 c = search needs
 after-drop-requires-2 : tie.Need-after-drop-requires-2
 after-drop-requires-2 c κs = search needs
 
-enum-known-m-6 : tie.Need-enum-known-m-6
-enum-known-m-6 c = search needs
+enum-told-5 : tie.Need-enum-told-5
+enum-told-5 c = search needs
 
 after-split-requires : tie.Need-after-split-requires
 unfolding room
-after-split-requires c κs = rw (c .before .m6 .given .1) at (c .before .before .before .pre)
+after-split-requires c κs = rw (c .enum-told5 .given .1) at (c .before .before .pre)
 
-enum-known-m-7 : tie.Need-enum-known-m-7
-enum-known-m-7 c = search needs
+enum-told-6 : tie.Need-enum-told-6
+enum-told-6 c = search needs
 
-after-case-requires : tie.Need-after-case-requires
+fork-to-requires : tie.Need-fork-to-requires
 unfolding room
-after-case-requires c κs = rw (c .before .m7 .given .1) at (c .before .before .before .pre)
+fork-to-requires c κs = rw (c .enum-told6 .given .1) at (c .before .before .pre)
 
 returns : tie.Need-returns
 unfolding changeOf
@@ -116,11 +116,11 @@ returns-9 c = rw (c .before .enum-told4 .given .1) (c .after-drop2 .ensures)
 
 returns-10 : tie.Need-returns-10
 unfolding changeOf
-returns-10 c = rw (c .before .before .m6 .given .1) (c .after-split .ensures)
+returns-10 c = rw (c .before .enum-told5 .given .1) (c .after-split .ensures)
 
 returns-11 : tie.Need-returns-11
 unfolding changeOf
-returns-11 c = rw (c .before .before .m7 .given .1) (c .after-case .ensures)
+returns-11 c = rw (c .before .enum-told6 .given .1) (c .fork-to .ensures)
 
 pub change-of-spec : {M : Type 1} → statement M
 change-of-spec =
@@ -144,10 +144,10 @@ change-of-spec =
     after-drop-requires
     enum-told-4
     after-drop-requires-2
-    enum-known-m-6
+    enum-told-5
     after-split-requires
-    enum-known-m-7
-    after-case-requires
+    enum-told-6
+    fork-to-requires
     returns
     returns-2
     returns-3

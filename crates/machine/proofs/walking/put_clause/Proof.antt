@@ -1,4 +1,4 @@
--- `put_clause` meets its contract: the topmost chunk is the definition's.
+-- `put_clause` meets its contract: both tables are as `put_entry` leaves them, and the goal is the definition's.
 use borrow.Author.Needs.{needs}
 use Rattle.machine.proofs.walking.put_clause.Statement.{statement}
 use Rattle.machine.proofs.walking.put_clause.Tie as tie
@@ -6,14 +6,18 @@ use Rattle.machine.proofs.walking.put_clause.Tie as tie
 cast-n : tie.Need-cast-n
 cast-n c = search needs
 
-top-chunk-requires : tie.Need-top-chunk-requires
-top-chunk-requires c κs = search needs
+goal-in-requires : tie.Need-goal-in-requires
+goal-in-requires c κs = search needs
 
 put-entry-requires : tie.Need-put-entry-requires
 put-entry-requires c κs = search needs
 
+put-entry-requires-2 : tie.Need-put-entry-requires-2
+put-entry-requires-2 c κs = search needs
+
 returns : tie.Need-returns
-returns c = rw (c .before .before .top-chunk .ensures) at (c .put-entry .ensures)
+returns c = (c .before .before .put-entry .ensures, rw (c .before .before .before .before .before .goal-in .ensures) at (c .put-entry2 .ensures))
 
 pub put-clause-spec : {M : Type 1} → statement M
-put-clause-spec = tie.close (tie.spec cast-n top-chunk-requires put-entry-requires returns)
+put-clause-spec =
+    tie.close (tie.spec cast-n goal-in-requires put-entry-requires put-entry-requires-2 returns)

@@ -1,8 +1,8 @@
 -- `move_rows` meets its contract: each arm knows its move, which is the definition's line.
 use borrow.Author.Needs.{needs}
-use Rattle.machine.specs.Change.{rowsAfter}
-use Rattle.machine.proofs.changes.move_rows.Statement.{statement}
-use Rattle.machine.proofs.changes.move_rows.Tie as tie
+use Rattle.machine.specs.Tables.{rowsAfter}
+use Rattle.machine.proofs.tables.move_rows.Statement.{statement}
+use Rattle.machine.proofs.tables.move_rows.Tie as tie
 
 enum-told : tie.Need-enum-told
 enum-told c = search needs

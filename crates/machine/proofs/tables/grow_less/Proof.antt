@@ -1,7 +1,7 @@
 -- `grow_less` meets its contract: the goal is the definition's.
 use borrow.Author.Needs.{needs}
-use Rattle.machine.proofs.changes.grow_less.Statement.{statement}
-use Rattle.machine.proofs.changes.grow_less.Tie as tie
+use Rattle.machine.proofs.tables.grow_less.Statement.{statement}
+use Rattle.machine.proofs.tables.grow_less.Tie as tie
 
 goal-in-requires : tie.Need-goal-in-requires
 goal-in-requires c κs = search needs

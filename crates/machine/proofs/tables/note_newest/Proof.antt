@@ -1,7 +1,7 @@
 -- `note_newest` meets its contract: the world is the definition's.
 use borrow.Author.Needs.{needs}
-use Rattle.machine.proofs.changes.note_newest.Statement.{statement}
-use Rattle.machine.proofs.changes.note_newest.Tie as tie
+use Rattle.machine.proofs.tables.note_newest.Statement.{statement}
+use Rattle.machine.proofs.tables.note_newest.Tie as tie
 
 less-by-requires : tie.Need-less-by-requires
 less-by-requires c κs = search needs
