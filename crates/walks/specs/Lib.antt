@@ -17,3 +17,4 @@ pub mod Begun
 pub mod Passed
 pub mod Readable
 pub mod Simulation
+pub mod Afresh

@@ -63,7 +63,7 @@ by-phase frame down (at-rest (at-chunks {m = i} named newest few known)) waits x
 by-phase {waiting} frame down (in-focus {met} named aimed atom) waits x = focus-steps frame down named aimed atom met waiting waits x
 
 -- One step.
-stepped : {T : Reading} {s : State} {o : Obligation} {waiting : List Obligation} → Related T s (o ∷ waiting) → (x : Step) →
+pub stepped : {T : Reading} {s : State} {o : Obligation} {waiting : List Obligation} → Related T s (o ∷ waiting) → (x : Step) →
     Match T s waiting (judgedNow (T .table) s x) (stepOn (stepIs x) (o .sequent) (o .phase))
 stepped {T} (now-open {rows} {cl} {ats} {ch} {sv} {stack} {n} {m} {c} {ph} frame down stands waits) x =
     rw (judged-at (T .table) rows stack n cl ats x (headOf ph (suc m) c) (head-is stack n (frame .on-top))) (by-phase frame down stands waits x)

@@ -21,7 +21,7 @@ use Rattle.walks.specs.Ran.{walkedAnswer, stepsFrom, ran-from}
 
 -- What the machine begins with stands for the start, and its steps are the request's.
 module _ (t : Lent) (p : Passed t) where
-  begins : Related (readingOf t p) (begun (t .formTable) (t .lineTable) (t .lines) (t .goal)) (startOf (requestOf t) ∷ [])
+  pub begins : Related (readingOf t p) (begun (t .formTable) (t .lineTable) (t .lines) (t .goal)) (startOf (requestOf t) ∷ [])
   unfolding requestOf startOf
   begins =
       begun-related (readingOf t p) (t .lineTable) (unpack lineEntry (t .lines) (t .lineTable)) (t .lines)
