@@ -14,8 +14,6 @@ use Rattle.lines.specs.declared.Number.{Number}
 use Rattle.lines.specs.declared.Number.the-variants as N
 use Rattle.lines.specs.declared.Row.{Row as RowValue}
 use Rattle.lines.specs.declared.Row.the-variants as R
-use Rattle.lines.specs.declared.Operands.{Operands}
-use Rattle.lines.specs.declared.Operands.the-variants as O
 
 -- A number, or where its text stops being one.
 unfoldable pub numberAnswer : Option ℕ → ℕ → Number
@@ -26,11 +24,6 @@ numberAnswer (some n) stop = N.Value n
 unfoldable pub rowAnswer : Option Row → RowValue
 rowAnswer none = R.Bad
 rowAnswer (some r) = R.Items (r .kind) (r .left) (r .right)
-
--- How many numbers, the first and the second.
-unfoldable pub operandsAnswer : Option (List ℕ) → Operands
-operandsAnswer none = O.Bad
-operandsAnswer (some ns) = O.Numbers (length ns) (getD ns 0 0) (getD ns 1 0)
 
 -- The ways in which reading a number ends: a byte too many, a byte that is no digit, no byte at all, and a number.
 module _ (s : List ℕ) (m i : ℕ) (is : m ≡ mostDigits s) where

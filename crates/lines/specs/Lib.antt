@@ -2,6 +2,7 @@ pub mod Parts
 pub mod Items
 pub mod Stop
 pub mod Words
+pub mod Codes
 pub mod Values
 pub mod Answers
 pub mod Operands

@@ -15,7 +15,7 @@ use Rattle.scope.specs.Form.{both}
 use Rattle.scope.specs.Line.{Line, Cut, parts, uncut, cut, cutAfter, strip, valued, judged, placed, lineOf, line}
 use Rattle.scope.specs.Kinds.{same}
 
--- How many bytes stand before the first byte b: all, where there is none.
+-- How many numbers, bytes of a text or codes of words, stand before the first b: all, where there is none.
 unfoldable pub upTo : ℕ → List ℕ → ℕ
 upTo b [] = 0
 upTo b (c ∷ s) = cond (eqb c b) 0 (suc (upTo b s))

@@ -2,16 +2,22 @@
 use Prim.Native.Nat.{ℕ, suc, _+_, _-_, _≤_, _<_}
 use native.Mathlib.Numerals.{add-one}
 use native.Mathlib.Omega.{arith}
-use mathlib.Core.Path.{_≡_, refl, sym, _∙_}
+use mathlib.Core.Path.{_≡_, refl, ap, sym, _∙_}
 use mathlib.Core.List.{List, [], _∷_}
 use mathlib.Core.Bool.{Bool, true, false, cond}
-use lib.ListN.{length, take, drop}
+use lib.Dec.{ltb}
+use lib.ListN.{length, take, drop, length-drop}
 use lib.Seq.{length-take-le, take-all, take-take}
+use borrow.Author.Tests.{ltb-true, ltb-false}
 use Rattle.scope.specs.Line.{parts, uncut, cut}
 use Rattle.scope.specs.Kinds.{same, items}
 use Rattle.lines.specs.Parts.{upTo, valueIn, lineValue, valueOf, lineRest, restOf, cut-found, cut-none, strip-is, drop-take, tail-part}
 use Rattle.lines.specs.Items.{same-lengths, items-more, items-last}
-use Rattle.lines.specs.Words.{wordPlace}
+use Rattle.lines.specs.Words.{laterItems}
+
+-- What stands behind place n.
+abbrev pub tailFrom : ℕ → List ℕ → List ℕ
+tailFrom n s = take (length s - (n + 1)) (drop (n + 1) s)
 
 module _ (s : List ℕ) (e : ℕ) (is : e ≡ upTo 10 s) where
   no-line : length s ≤ e → cut 10 s ≡ uncut
@@ -56,27 +62,48 @@ module _ (s : List ℕ) (e : ℕ) (is : e ≡ upTo 10 s) where
     pub value-found : length key ≤ e → same (take (length key) s) key ≡ true → take (e - length key) (drop (length key) s) ≡ valueOf key s
     value-found k t = sym (drop-take (length key) e s) ∙ sym (value-is true (rw (take-take (length key) e s k) t))
 
--- The place of a word: the first item of a text that has more, and the last item.
-module _ (s w : List ℕ) (e : ℕ) (is : e ≡ upTo 32 s) where
-  pub first-item : e < length s → items s ≡ take e s ∷ items (drop (e + 1) s)
-  first-item h = rw (add-one, is) (items-more s (omega arith))
+-- A value that is not empty: the line is the key, the value and the LF, and the rest begins behind them.
+pub record Behind (s : List ℕ) (n : ℕ) : Type 0 where
+  pub inside : n ≤ length s
+  pub rest : take (length s - n) (drop n s) ≡ restOf s
 
-  pub only-item : length s ≤ e → items s ≡ s ∷ []
-  only-item h = items-last s (omega arith)
+pub rest-behind : (key v s : List ℕ) (n : ℕ) → v ≡ valueOf key s → 0 < length v → n ≡ length v + (length key + 1) → Behind s n
+rest-behind key v s n is some at = line (ltb (upTo 10 s) (length s)) refl
+  where
+    never : [] ≡ valueOf key s → Behind s n
+    never e = absurd (omega (arith, some, ap length (is ∙ sym e)))
 
-  pub place-here : e < length s → same (take e s) w ≡ true → wordPlace (items s) w ≡ 0
-  unfolding wordPlace
-  place-here h t = rw (first-item h) (rw t refl)
+    here : upTo 10 s < length s → length key ≤ upTo 10 s → take (upTo 10 s - length key) (drop (length key) s) ≡ valueOf key s → Behind s n
+    here h k e =
+        let l : length v ≡ upTo 10 s - length key = ap length (is ∙ sym e) ∙ length-take-le (upTo 10 s - length key) (drop (length key) s)
+        (omega (arith, length-drop (length key) s)) in
+        let m : n ≡ upTo 10 s + 1 = omega arith in
+        rw m (record { inside = omega arith; rest = rest-found s (upTo 10 s) refl h })
 
-  pub place-later : e < length s → same (take e s) w ≡ false
-      → wordPlace (items s) w ≡ suc (wordPlace (items (take (length s - (e + 1)) (drop (e + 1) s))) w)
-  unfolding wordPlace
-  place-later h t = rw (tail-part (e + 1) s, first-item h) (rw t refl)
+    word : upTo 10 s < length s → length key ≤ upTo 10 s → (b : Bool) → same (take (length key) s) key ≡ b → Behind s n
+    word h k true e = here h k (value-found s (upTo 10 s) refl key h k e)
+    word h k false e = never (value-other s (upTo 10 s) refl key h k e)
 
-  pub place-last : length s ≤ e → same s w ≡ true → wordPlace (items s) w ≡ 0
-  unfolding wordPlace
-  place-last h t = rw (only-item h) (rw t refl)
+    long : upTo 10 s < length s → (b : Bool) → ltb (upTo 10 s) (length key) ≡ b → Behind s n
+    long h true e = never (value-short s (upTo 10 s) refl key h (ltb-true (upTo 10 s) (length key) e))
+    long h false e = word h (ltb-false (upTo 10 s) (length key) e) (same (take (length key) s) key) refl
 
-  pub place-none : length s ≤ e → same s w ≡ false → wordPlace (items s) w ≡ 1
-  unfolding wordPlace
-  place-none h t = rw (only-item h) (rw t refl)
+    line : (b : Bool) → ltb (upTo 10 s) (length s) ≡ b → Behind s n
+    line true e = long (ltb-true (upTo 10 s) (length s) e) (ltb (upTo 10 s) (length key)) refl
+    line false e = never (value-none s (upTo 10 s) refl key (ltb-false (upTo 10 s) (length s) e))
+
+-- The items of a text by its first space.
+module _ (s : List ℕ) (e : ℕ) (is : e ≡ upTo 32 s) where
+  pub item-more : e < length s → items s ≡ take e s ∷ items (tailFrom e s)
+  item-more h = rw (tail-part (e + 1) s, add-one, is) (items-more s (omega arith))
+
+  pub item-only : length s ≤ e → items s ≡ s ∷ []
+  item-only h = items-last s (omega arith)
+
+  pub front-item : items s ≡ take e s ∷ laterItems (items s)
+  unfolding laterItems
+  front-item = go (ltb e (length s)) refl
+    where
+      go : (b : Bool) → ltb e (length s) ≡ b → items s ≡ take e s ∷ laterItems (items s)
+      go true h = rw (item-more (ltb-true e (length s) h)) refl
+      go false h = let k = ltb-false e (length s) h in rw (take-all e s k, item-only k) refl

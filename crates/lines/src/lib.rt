@@ -1,12 +1,13 @@
 // What stands in a line of the request file: its value and the rest of the text, as parts of the file's own bytes, and
 // the numbers and kind words of a value.
 ghost use mathlib.Core.Path.{_≡_};
+ghost use Prim.Native.Nat.{_≤_};
 ghost use Rattle.scope.specs.Number.{number};
-ghost use Rattle.scope.specs.Kinds.{same, items, formKinds, stepKinds, rowIn};
+ghost use Rattle.scope.specs.Kinds.{same, items, numbers, formKinds, stepKinds, rowIn};
 ghost use Rattle.lines.specs.Parts.{upTo, valueOf, restOf};
 ghost use Rattle.lines.specs.Stop.{mostDigits, numberStop};
-ghost use Rattle.lines.specs.Words.{wordPlace, laterItems, fewNumbers, plainRow};
-ghost use Rattle.lines.specs.Answers.{numberAnswer, operandsAnswer, rowAnswer};
+ghost use Rattle.lines.specs.Words.{codeOf, laterItems, wantedRow};
+ghost use Rattle.lines.specs.Answers.{numberAnswer, rowAnswer};
 
 // A number, or the place of the first byte that cannot go on.
 pub enum Number {
@@ -17,12 +18,6 @@ pub enum Number {
 // The kind and the operands of a `form=` or `step=` value, 0 where the kind lacks one.
 pub enum Row {
     Items(usize, u32, u32),
-    Bad,
-}
-
-// How many numbers follow the kind word, and the numbers.
-enum Operands {
-    Numbers(u32, u32, u32),
     Bad,
 }
 
@@ -128,100 +123,144 @@ pub fn read_number(text: &[u8]) -> Number
     Number::Value(value)
 }
 
-// The place of a word among words parted by spaces; their number where it is none of them.
-fn find_word(words: &[u8], word: &[u8]) -> usize
-    ensures { λ r. ⌜ r ≡ wordPlace (items (now (words .entry))) (now (word .entry)) ⌝ }
+// A word as one number: its bytes as digits to the base 256 behind a leading 1; 0 for a word of more than 7 bytes.
+fn code_of(word: &[u8]) -> u64
+    ensures { λ r. ⌜ r ≡ codeOf (now (word .entry)) ⌝ }
 {
-    let mut rest = words;
-    let mut end = find_byte(rest, 32);
-    let mut place = 0;
-    while end < rest.len() {
-        let same = same_word(&rest[..end], word);
-        if same {
-            return place;
-        }
-        let from = end + 1;
-        let next = &rest[from..];
-        rest = next;
-        end = find_byte(rest, 32);
-        place += 1;
+    if 7 < word.len() {
+        return 0;
     }
-    let last = same_word(rest, word);
-    if last {
-        return place;
+    let mut code: u64 = 1;
+    let mut i = 0;
+    while i < word.len() {
+        let byte = word[i] as u64;
+        code = code * 256 + byte;
+        i += 1;
     }
-    place + 1
+    code
 }
 
-// The numbers behind the first item of a value, if there are at most two items there and each is a number.
-fn operands_of(value: &[u8]) -> Operands
-    ensures { λ r. ⌜ r ≡ operandsAnswer (fewNumbers (laterItems (items (now (value .entry))))) ⌝ }
+// The place of a code among codes; their number where it is none of them.
+fn find_code(codes: &[u64], code: u64) -> usize
+    ensures { λ r. ⌜ r ≡ upTo code (now (codes .entry)) ⌝ }
 {
-    let end = find_byte(value, 32);
+    let mut i = 0;
+    while i < codes.len() {
+        if codes[i] == code {
+            return i;
+        }
+        i += 1;
+    }
+    i
+}
+
+// A row of a kind that wants one number.
+fn one_number(rest: &[u8], kind: usize) -> Row
+    ensures { λ r. ⌜ r ≡ rowAnswer (wantedRow kind 1 (numbers (items (now (rest .entry))))) ⌝ }
+{
+    let got = read_number(rest);
+    let Number::Value(x) = got else {
+        return Row::Bad;
+    };
+    Row::Items(kind, x, 0)
+}
+
+// A row of a kind that wants two numbers.
+fn two_numbers(rest: &[u8], kind: usize) -> Row
+    ensures { λ r. ⌜ r ≡ rowAnswer (wantedRow kind 2 (numbers (items (now (rest .entry))))) ⌝ }
+{
+    let end = find_byte(rest, 32);
+    if rest.len() <= end {
+        return Row::Bad;
+    }
+    let first = read_number(&rest[..end]);
+    let Number::Value(x) = first else {
+        return Row::Bad;
+    };
+    let from = end + 1;
+    let second = read_number(&rest[from..]);
+    let Number::Value(y) = second else {
+        return Row::Bad;
+    };
+    Row::Items(kind, x, y)
+}
+
+// A row of a kind, whose word ends at `end`, by the number of operands that the kind wants.
+fn row_with(value: &[u8], end: usize, kind: usize, wanted: u8) -> Row
+    requires { ⌜ (end ≡ upTo 32 (now value)) × (wanted ≤ 2) ⌝ }
+    ensures { λ r. ⌜ r ≡ rowAnswer (wantedRow kind wanted (numbers (laterItems (items (now (value .entry)))))) ⌝ }
+{
     if value.len() <= end {
-        return Operands::Numbers(0, 0, 0);
+        if wanted == 0 {
+            return Row::Items(kind, 0, 0);
+        }
+        return Row::Bad;
     }
     let from = end + 1;
     let rest = &value[from..];
-    let next = find_byte(rest, 32);
-    let first = read_number(&rest[..next]);
-    let Number::Value(x) = first else {
-        return Operands::Bad;
-    };
-    if rest.len() <= next {
-        return Operands::Numbers(1, x, 0);
+    if wanted == 1 {
+        return one_number(rest, kind);
     }
-    let after = next + 1;
-    let last = &rest[after..];
-    let over = find_byte(last, 32);
-    if over < last.len() {
-        return Operands::Bad;
+    if wanted == 2 {
+        return two_numbers(rest, kind);
     }
-    let second = read_number(last);
-    let Number::Value(y) = second else {
-        return Operands::Bad;
-    };
-    Operands::Numbers(2, x, y)
-}
-
-// A value by a table of kind words and the number of operands of each.
-fn row_of(words: &[u8], operands: &[u8], value: &[u8]) -> Row
-    ensures { λ r. ⌜ r ≡ rowAnswer (plainRow (items (now (words .entry))) (now (operands .entry)) (items (now (value .entry)))) ⌝ }
-{
-    let end = find_byte(value, 32);
-    let kind = find_word(words, &value[..end]);
-    if operands.len() <= kind {
-        return Row::Bad;
-    }
-    let got = operands_of(value);
-    let Operands::Numbers(count, x, y) = got else {
-        return Row::Bad;
-    };
-    let wanted = operands[kind] as u32;
-    if count != wanted {
-        return Row::Bad;
-    }
-    Row::Items(kind, x, y)
+    Row::Bad
 }
 
 // The value of a `form=` line.
 pub fn form_row(value: &[u8]) -> Row
     ensures { λ r. ⌜ r ≡ rowAnswer (rowIn formKinds (now (value .entry))) ⌝ }
 {
-    row_of(
-        b"p top bot and or imp says sf",
-        b"\x01\x00\x00\x02\x02\x02\x02\x02",
-        value,
-    )
+    let end = find_byte(value, 32);
+    let code = code_of(&value[..end]);
+    let codes = [
+        0x170, // p
+        0x1746f70, // top
+        0x1626f74, // bot
+        0x1616e64, // and
+        0x16f72, // or
+        0x1696d70, // imp
+        0x173617973, // says
+        0x17366, // sf
+    ];
+    let kind = find_code(&codes, code);
+    if 8 <= kind {
+        return Row::Bad;
+    }
+    let wanted = b"\x01\x00\x00\x02\x02\x02\x02\x02"[kind];
+    row_with(value, end, kind, wanted)
 }
 
 // The value of a `step=` line.
 pub fn step_row(value: &[u8]) -> Row
     ensures { λ r. ⌜ r ≡ rowAnswer (rowIn stepKinds (now (value .entry))) ⌝ }
 {
-    row_of(
-        b"and or1 or2 imp says top sf use left right to hit push split case absurd drop note",
-        b"\x00\x00\x00\x00\x00\x00\x00\x01\x00\x00\x01\x00\x00\x00\x00\x00\x00\x00",
-        value,
-    )
+    let end = find_byte(value, 32);
+    let code = code_of(&value[..end]);
+    let codes = [
+        0x1616e64, // and
+        0x16f7231, // or1
+        0x16f7232, // or2
+        0x1696d70, // imp
+        0x173617973, // says
+        0x1746f70, // top
+        0x17366, // sf
+        0x1757365, // use
+        0x16c656674, // left
+        0x17269676874, // right
+        0x1746f, // to
+        0x1686974, // hit
+        0x170757368, // push
+        0x173706c6974, // split
+        0x163617365, // case
+        0x1616273757264, // absurd
+        0x164726f70, // drop
+        0x16e6f7465, // note
+    ];
+    let kind = find_code(&codes, code);
+    if 18 <= kind {
+        return Row::Bad;
+    }
+    let wanted = b"\x00\x00\x00\x00\x00\x00\x00\x01\x00\x00\x01\x00\x00\x00\x00\x00\x00\x00"[kind];
+    row_with(value, end, kind, wanted)
 }

@@ -4,6 +4,7 @@ use native.Mathlib.Omega.{arith}
 use mathlib.Core.Path.{_≡_, refl, ap, _∙_}
 use mathlib.Core.List.{List}
 use lib.ListN.{length, take, drop}
+use Rattle.scope.specs.Tests.{never}
 use Rattle.scope.specs.Request.{Row}
 use Rattle.scope.specs.Line.{Read, ok, bad, Reader}
 use Rattle.lines.specs.Parts.{tail-part}
@@ -33,11 +34,11 @@ pub record Section-got {A : Type 0} (n : ℕ) (r : Read (List A)) (at : ℕ) : T
 pub section-got : {A : Type 0} (n : ℕ) (r : Read (List A)) (at : ℕ) → sectionOf n r ≡ Section.Read at → Section-got n r at
 unfolding sectionOf
 section-got n (ok xs rest) at e = record { things = xs; rest = rest; is = refl; place = cc }
-section-got n (bad k i) at e = let z : _≡_ {A = ℕ} 0 1 = cc in absurd (omega arith)
+section-got n (bad k i) at e = never cc
 
 pub section-lost : {A : Type 0} (n : ℕ) (r : Read (List A)) (x : Refusal) → sectionOf n r ≡ Section.Refused x → r ≡ bad (x .number) (x .place)
 unfolding sectionOf
-section-lost n (ok xs rest) x e = let z : _≡_ {A = ℕ} 0 1 = cc in absurd (omega arith)
+section-lost n (ok xs rest) x e = never cc
 section-lost {A} n (bad k i) x e =
     let f : record { number = k; place = i } ≡ x = cc in
     ap {B = Read (List A)} (λ (y : Refusal). bad (y .number) (y .place)) f
@@ -54,11 +55,11 @@ head-got n (ok h rest) p a f at e =
     let y : h .atoms ≡ a = cc in
     let z : h .formulas ≡ f = cc in
     record { rest = rest; is = λ i. ok record { principals = x i; atoms = y i; formulas = z i } rest; place = cc }
-head-got n (bad k i) p a f at e = let z : _≡_ {A = ℕ} 0 1 = cc in absurd (omega arith)
+head-got n (bad k i) p a f at e = never cc
 
 pub head-lost : (n : ℕ) (r : Read Counted) (x : Refusal) → headOf n r ≡ Head.Refused x → r ≡ bad (x .number) (x .place)
 unfolding headOf
-head-lost n (ok h rest) x e = let z : _≡_ {A = ℕ} 0 1 = cc in absurd (omega arith)
+head-lost n (ok h rest) x e = never cc
 head-lost n (bad k i) x e =
     let f : record { number = k; place = i } ≡ x = cc in
     ap {B = Read Counted} (λ (y : Refusal). bad (y .number) (y .place)) f
@@ -76,11 +77,11 @@ formulas-got n (ok h rest) p a f at e =
     let x : h .principals ≡ p = cc in
     let y : h .atoms ≡ a = cc in
     record { forms = h .forms; rest = rest; is = λ i. ok record { principals = x i; atoms = y i; forms = h .forms } rest; count = cc; place = cc }
-formulas-got n (bad k i) p a f at e = let z : _≡_ {A = ℕ} 0 1 = cc in absurd (omega arith)
+formulas-got n (bad k i) p a f at e = never cc
 
 pub formulas-lost : (n : ℕ) (r : Read Formulas) (x : Refusal) → formulasOf n r ≡ Head.Refused x → r ≡ bad (x .number) (x .place)
 unfolding formulasOf
-formulas-lost n (ok h rest) x e = let z : _≡_ {A = ℕ} 0 1 = cc in absurd (omega arith)
+formulas-lost n (ok h rest) x e = never cc
 formulas-lost n (bad k i) x e =
     let f : record { number = k; place = i } ≡ x = cc in
     ap {B = Read Formulas} (λ (y : Refusal). bad (y .number) (y .place)) f
@@ -97,11 +98,11 @@ unfolding policyOf
 policy-got n (ok p rest) c g at e =
     let x : p .goal ≡ g = cc in
     record { lines = p .lines; rest = rest; is = λ i. ok record { lines = p .lines; goal = x i } rest; count = cc; place = cc }
-policy-got n (bad k i) c g at e = let z : _≡_ {A = ℕ} 0 1 = cc in absurd (omega arith)
+policy-got n (bad k i) c g at e = never cc
 
 pub policy-lost : (n : ℕ) (r : Read PolicyRead) (x : Refusal) → policyOf n r ≡ Policy.Refused x → r ≡ bad (x .number) (x .place)
 unfolding policyOf
-policy-lost n (ok p rest) x e = let z : _≡_ {A = ℕ} 0 1 = cc in absurd (omega arith)
+policy-lost n (ok p rest) x e = never cc
 policy-lost n (bad k i) x e =
     let f : record { number = k; place = i } ≡ x = cc in
     ap {B = Read PolicyRead} (λ (y : Refusal). bad (y .number) (y .place)) f
@@ -116,11 +117,11 @@ pub record Steps-got (n : ℕ) (r : Read (List Row)) (c at : ℕ) : Type 0 where
 pub steps-got : (n : ℕ) (r : Read (List Row)) (c at : ℕ) → stepsOf n r ≡ Steps.Read c at → Steps-got n r c at
 unfolding stepsOf
 steps-got n (ok rows rest) c at e = record { rows = rows; rest = rest; is = refl; count = cc; place = cc }
-steps-got n (bad k i) c at e = let z : _≡_ {A = ℕ} 0 1 = cc in absurd (omega arith)
+steps-got n (bad k i) c at e = never cc
 
 pub steps-lost : (n : ℕ) (r : Read (List Row)) (x : Refusal) → stepsOf n r ≡ Steps.Refused x → r ≡ bad (x .number) (x .place)
 unfolding stepsOf
-steps-lost n (ok rows rest) x e = let z : _≡_ {A = ℕ} 0 1 = cc in absurd (omega arith)
+steps-lost n (ok rows rest) x e = never cc
 steps-lost n (bad k i) x e =
     let f : record { number = k; place = i } ≡ x = cc in
     ap {B = Read (List Row)} (λ (y : Refusal). bad (y .number) (y .place)) f

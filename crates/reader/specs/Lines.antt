@@ -1,14 +1,15 @@
 -- A line of the definition from what the code answers about it.
-use Prim.Native.Nat.{ℕ, zero, suc, _≤_, _<_}
+use Prim.Native.Nat.{ℕ, zero, suc, _+_, _≤_, _<_}
 use Prim.Native.String.{String}
 use native.Mathlib.Omega.{arith}
 use mathlib.Core.Path.{_≡_, refl, ap, sym, _∙_}
-use mathlib.Core.List.{List, []}
+use mathlib.Core.List.{List, [], _∷_}
 use mathlib.Core.Bool.{Bool, true, false}
 use mathlib.Core.Option.{Option, none, some}
 use borrow.Author.Tests.{leb-true, le-leb, lt-leb, lt-ltb, le-ltb}
 use lib.Dec.{ltb, leb}
-use lib.ListN.{getD}
+use lib.ListN.{length, getD}
+use Rattle.scope.specs.Tests.{never}
 use Rattle.scope.specs.Form.{both}
 use Rattle.scope.specs.Request.{Row}
 use Rattle.scope.specs.Bytes.{bytes}
@@ -18,6 +19,7 @@ use Rattle.scope.specs.Kinds.{Kind, items, ontoFirst, numbers, kindFrom, same, 
 use Rattle.scope.specs.Text.{numberLine, rowLine}
 use Rattle.scope.specs.Refusals.{demand, countRefusal}
 use Rattle.lines.specs.Parts.{valueOf, restOf, line-parts}
+use Rattle.lines.specs.Values.{Behind, rest-behind}
 use Rattle.lines.specs.Stop.{numberStop}
 use Rattle.lines.specs.Answers.{numberAnswer, rowAnswer}
 use Rattle.lines.specs.Operands.{number-some, number-none}
@@ -64,17 +66,17 @@ row-val v k l r e = rw e refl
 -- And back: what an answer says of the line.
 pub out-number : (v : Value ℕ) (k : ℕ) → numberLineOf v ≡ NumberLine.Refused k → v ≡ out k
 unfolding numberLineOf
-out-number (val n) k e = let z : _≡_ {A = ℕ} 0 1 = cc in absurd (omega arith)
+out-number (val n) k e = never cc
 out-number (out j) k e = cc
 
 pub val-number : (v : Value ℕ) (n : ℕ) → numberLineOf v ≡ NumberLine.Number n → v ≡ val n
 unfolding numberLineOf
 val-number (val m) n e = cc
-val-number (out j) n e = let z : _≡_ {A = ℕ} 0 1 = cc in absurd (omega arith)
+val-number (out j) n e = never cc
 
 pub out-row : (v : Value Row) (k : ℕ) → rowLineOf v ≡ RowLine.Refused k → v ≡ out k
 unfolding rowLineOf
-out-row (val n) k e = let z : _≡_ {A = ℕ} 0 1 = cc in absurd (omega arith)
+out-row (val n) k e = never cc
 out-row (out j) k e = cc
 
 pub val-row : (v : Value Row) (k l r : ℕ) → rowLineOf v ≡ RowLine.Row k l r → v ≡ val (row k l r)
@@ -84,9 +86,9 @@ val-row (val m) k l r e =
     let b : m .left ≡ l = cc in
     let c : m .right ≡ r = cc in
     ap val (λ i. record { kind = a i; left = b i; right = c i })
-val-row (out j) k l r e = let z : _≡_ {A = ℕ} 0 1 = cc in absurd (omega arith)
+val-row (out j) k l r e = never cc
 
--- A line by its value and the text behind it.
+-- No empty value is in shape.
 no-number : number [] ≡ none
 unfolding number both
 no-number = refl
@@ -99,35 +101,58 @@ pub no-step : rowIn stepKinds [] ≡ none
 unfolding rowIn stepKinds itemsRow items ontoFirst kindFrom same kindRow numbers
 no-step = refl
 
-module _ {A : Type 0} (l : Line A) (refusal : A → ℕ) (i : ℕ) (s : List ℕ) (empty : l .shape .thing [] ≡ none) where
-  line-ok : (a : A) (rest : List ℕ) → rest ≡ restOf s → judged refusal (l .shape .thing (valueOf (l .key) s)) ≡ val a → line l refusal i s ≡ ok a rest
-  unfolding placed
-  line-ok a rest r e = line-parts l refusal i s empty ∙ rw (e, r) refl
+-- What a line gives by its value v, and where the rest begins: no empty value is in shape, so a line that gives a thing is key, value, LF.
+module _ {A : Type 0} (l : Line A) (refusal : A → ℕ) (s v : List ℕ) (part : v ≡ valueOf (l .key) s) (empty : l .shape .thing [] ≡ none) where
+  by-value : (i : ℕ) → line l refusal i s ≡ placed i (judged refusal (l .shape .thing v)) (restOf s)
+  by-value i = line-parts l refusal i s empty ∙ ap (λ t. placed i (judged refusal (l .shape .thing t)) (restOf s)) (sym part)
 
-  line-bad : (k : ℕ) → judged refusal (l .shape .thing (valueOf (l .key) s)) ≡ out k → line l refusal i s ≡ bad k i
+  line-ok : (i : ℕ) (a : A) (rest : List ℕ) → rest ≡ restOf s → judged refusal (l .shape .thing v) ≡ val a → line l refusal i s ≡ ok a rest
   unfolding placed
-  line-bad k e = line-parts l refusal i s empty ∙ rw e refl
+  line-ok i a rest r e = by-value i ∙ rw (e, r) refl
+
+  line-bad : (i k : ℕ) → judged refusal (l .shape .thing v) ≡ out k → line l refusal i s ≡ bad k i
+  unfolding placed
+  line-bad i k e = by-value i ∙ rw e refl
+
+  line-behind : (a : A) → judged refusal (l .shape .thing v) ≡ val a → Behind s (length v + (length (l .key) + 1))
+  line-behind a e = rest-behind (l .key) v s (length v + (length (l .key) + 1)) part (go v e) refl
+    where
+      go : (t : List ℕ) → judged refusal (l .shape .thing t) ≡ val a → 0 < length t
+      go [] e =
+          let f = judged-none refusal (l .shape .thing []) empty in
+          never cc
+      go (b ∷ t) e = omega arith
+
+module _ (key : String) (refusal : ℕ → ℕ) (s v : List ℕ) (part : v ≡ valueOf (bytes key) s) where
+  pub value-ok : (i : ℕ) (rest : List ℕ) (n : ℕ) → rest ≡ restOf s → numberLineOf (judged refusal (number v)) ≡ NumberLine.Number n
+      → line (numberLine key) refusal i s ≡ ok n rest
+  value-ok i rest n r e = line-ok (numberLine key) refusal s v part no-number i n rest r (val-number (judged refusal (number v)) n e)
+
+  pub value-bad : (i k : ℕ) → numberLineOf (judged refusal (number v)) ≡ NumberLine.Refused k → line (numberLine key) refusal i s ≡ bad k i
+  value-bad i k e = line-bad (numberLine key) refusal s v part no-number i k (out-number (judged refusal (number v)) k e)
+
+  pub value-behind : (n : ℕ) → numberLineOf (judged refusal (number v)) ≡ NumberLine.Number n → Behind s (length v + (length (bytes key) + 1))
+  value-behind n e = line-behind (numberLine key) refusal s v part no-number n (val-number (judged refusal (number v)) n e)
 
 pub number-ok : (key : String) (refusal : ℕ → ℕ) (i : ℕ) (s rest : List ℕ) (n : ℕ) → rest ≡ restOf s
     → numberLineOf (judged refusal (number (valueOf (bytes key) s))) ≡ NumberLine.Number n → line (numberLine key) refusal i s ≡ ok n rest
-number-ok key refusal i s rest n r e =
-    line-ok (numberLine key) refusal i s no-number n rest r (val-number (judged refusal (number (valueOf (bytes key) s))) n e)
+number-ok key refusal i s rest n r e = value-ok key refusal s (valueOf (bytes key) s) refl i rest n r e
 
 pub number-bad : (key : String) (refusal : ℕ → ℕ) (i : ℕ) (s : List ℕ) (k : ℕ)
     → numberLineOf (judged refusal (number (valueOf (bytes key) s))) ≡ NumberLine.Refused k → line (numberLine key) refusal i s ≡ bad k i
-number-bad key refusal i s k e =
-    line-bad (numberLine key) refusal i s no-number k (out-number (judged refusal (number (valueOf (bytes key) s))) k e)
+number-bad key refusal i s k e = value-bad key refusal s (valueOf (bytes key) s) refl i k e
 
-module _ (key : String) (kinds : List Kind) (refusal : Row → ℕ) (i : ℕ) (s : List ℕ) (empty : rowIn kinds [] ≡ none) where
-  pub row-ok : (rest : List ℕ) (k l r : ℕ) → rest ≡ restOf s
-      → rowLineOf (judged refusal (rowIn kinds (valueOf (bytes key) s))) ≡ RowLine.Row k l r → line (rowLine key kinds) refusal i s ≡ ok
-      (row k l r) rest
-  row-ok rest k l r is e =
-      line-ok (rowLine key kinds) refusal i s empty (row k l r) rest is (val-row (judged refusal (rowIn kinds (valueOf (bytes key) s))) k l r e)
+module _ (key : String) (kinds : List Kind) (refusal : Row → ℕ) (s v : List ℕ) (part : v ≡ valueOf (bytes key) s) (empty : rowIn kinds [] ≡ none) where
+  pub row-ok : (i : ℕ) (rest : List ℕ) (k l r : ℕ) → rest ≡ restOf s → rowLineOf (judged refusal (rowIn kinds v)) ≡ RowLine.Row k l r
+      → line (rowLine key kinds) refusal i s ≡ ok (row k l r) rest
+  row-ok i rest k l r is e =
+      line-ok (rowLine key kinds) refusal s v part empty i (row k l r) rest is (val-row (judged refusal (rowIn kinds v)) k l r e)
 
-  pub row-bad : (k : ℕ) → rowLineOf (judged refusal (rowIn kinds (valueOf (bytes key) s))) ≡ RowLine.Refused k → line
-      (rowLine key kinds) refusal i s ≡ bad k i
-  row-bad k e = line-bad (rowLine key kinds) refusal i s empty k (out-row (judged refusal (rowIn kinds (valueOf (bytes key) s))) k e)
+  pub row-bad : (i k : ℕ) → rowLineOf (judged refusal (rowIn kinds v)) ≡ RowLine.Refused k → line (rowLine key kinds) refusal i s ≡ bad k i
+  row-bad i k e = line-bad (rowLine key kinds) refusal s v part empty i k (out-row (judged refusal (rowIn kinds v)) k e)
+
+  pub row-behind : (k l r : ℕ) → rowLineOf (judged refusal (rowIn kinds v)) ≡ RowLine.Row k l r → Behind s (length v + (length (bytes key) + 1))
+  row-behind k l r e = line-behind (rowLine key kinds) refusal s v part empty (row k l r) (val-row (judged refusal (rowIn kinds v)) k l r e)
 
 -- The refusals of a count and of a formula number.
 pub count-low : (least most n : ℕ) → n < least → countRefusal least most n ≡ 3
@@ -153,13 +178,13 @@ below-is n f h = rw (lt-ltb f n h) refl
 -- A count that is let through is within its bounds.
 pub count-most : (least most : ℕ) (o : Option ℕ) (n : ℕ) → numberLineOf (judged (countRefusal least most) o) ≡ NumberLine.Number n → n ≤ most
 unfolding numberLineOf judged settled countRefusal both demand
-count-most least most none n e = let z : _≡_ {A = ℕ} 0 1 = cc in absurd (omega arith)
+count-most least most none n e = never cc
 count-most least most (some m) n e = go (leb least m) (leb m most) refl refl e
   where
     go : (a b : Bool) → leb least m ≡ a → leb m most ≡ b → numberLineOf (settled (demand (both a b) 3 0) m) ≡ NumberLine.Number n → n ≤ most
     go true true p q e = let f : m ≡ n = cc in omega (arith, leb-true m most q)
-    go true false p q e = let z : _≡_ {A = ℕ} 0 1 = cc in absurd (omega arith)
-    go false b p q e = let z : _≡_ {A = ℕ} 0 1 = cc in absurd (omega arith)
+    go true false p q e = never cc
+    go false b p q e = never cc
 
 -- The class is asked of a number that is a formula's.
 module _ (test : ℕ → Bool) (classes : List ℕ) (n : ℕ) (o : Option ℕ) where
@@ -175,7 +200,7 @@ module _ (test : ℕ → Bool) (classes : List ℕ) (n : ℕ) (o : Option ℕ) w
         where
           low : (b : Bool) → numberLineOf (settled (demand b 3 0) f) ≡ NumberLine.Refused k → NumberLine.Refused k ≡ numberLineOf
               (settled (demand b 3 (demand (test (getD classes f 0)) 5 0)) f)
-          low true e = let z : _≡_ {A = ℕ} 0 1 = cc in absurd (omega arith)
+          low true e = never cc
           low false e = sym e
 
   pub class-after : (f : ℕ) → numberLineOf (judged (belowRefusal n) o) ≡ NumberLine.Number f → judged (classRefusal test classes n) o
@@ -185,23 +210,23 @@ module _ (test : ℕ → Bool) (classes : List ℕ) (n : ℕ) (o : Option ℕ) w
     where
       go : (o : Option ℕ) (f : ℕ) → numberLineOf (judged (belowRefusal n) o) ≡ NumberLine.Number f → judged (classRefusal test classes n) o
           ≡ settled (demand (test (getD classes f 0)) 5 0) f
-      go none f e = let z : _≡_ {A = ℕ} 0 1 = cc in absurd (omega arith)
+      go none f e = never cc
       go (some m) f e = low (ltb m n) e
         where
           low : (b : Bool) → numberLineOf (settled (demand b 3 0) m) ≡ NumberLine.Number f → settled
               (demand b 3 (demand (test (getD classes m 0)) 5 0)) m ≡ settled (demand (test (getD classes f 0)) 5 0) f
           low true e = let p : m ≡ f = cc in ap (λ x. settled (demand (test (getD classes x 0)) 5 0) x) p
-          low false e = let z : _≡_ {A = ℕ} 0 1 = cc in absurd (omega arith)
+          low false e = never cc
 
 -- What the answer about a value says of its row.
 pub row-none : (o : Option Row) → rowAnswer o ≡ RowValue.Bad → o ≡ none
 unfolding rowAnswer
 row-none none e = refl
-row-none (some r) e = let z : _≡_ {A = ℕ} 0 1 = cc in absurd (omega arith)
+row-none (some r) e = never cc
 
 pub row-some : (o : Option Row) (k l r : ℕ) → rowAnswer o ≡ RowValue.Items k l r → o ≡ some (row k l r)
 unfolding rowAnswer
-row-some none k l r e = let z : _≡_ {A = ℕ} 0 1 = cc in absurd (omega arith)
+row-some none k l r e = never cc
 row-some (some m) k l r e =
     let a : m .kind ≡ k = cc in
     let b : m .left ≡ l = cc in
@@ -236,19 +261,17 @@ module _ (refusal : ℕ → ℕ) (value whole : List ℕ) (part : value ≡ whol
     pub number-taken : refusal n ≡ 0 → NumberLine.Number n ≡ numberLineOf (judged refusal (number whole))
     number-taken z = number-val (judged refusal (number whole)) n (judged-val refusal (number whole) n written z)
 
-module _ (kinds : List Kind) (refusal : Row → ℕ) (value whole : List ℕ) (part : value ≡ whole) (v : RowAnswer)
-    (about : v ≡ rowAnswer (rowIn kinds value)) where
-  pub row-lost : v ≡ RowValue.Bad → RowLine.Refused 2 ≡ rowLineOf (judged refusal (rowIn kinds whole))
+module _ (kinds : List Kind) (refusal : Row → ℕ) (value : List ℕ) (v : RowAnswer) (about : v ≡ rowAnswer (rowIn kinds value)) where
+  pub row-lost : v ≡ RowValue.Bad → RowLine.Refused 2 ≡ rowLineOf (judged refusal (rowIn kinds value))
   row-lost e =
-      row-out (judged refusal (rowIn kinds whole)) 2
-      (judged-none refusal (rowIn kinds whole) (ap (rowIn kinds) (sym part) ∙ row-none (rowIn kinds value) (sym about ∙ e)))
+      row-out (judged refusal (rowIn kinds value)) 2 (judged-none refusal (rowIn kinds value) (row-none (rowIn kinds value) (sym about ∙ e)))
 
   module _ (k l r : ℕ) (e : v ≡ RowValue.Items k l r) where
-    inShape : rowIn kinds whole ≡ some (row k l r)
-    inShape = ap (rowIn kinds) (sym part) ∙ row-some (rowIn kinds value) k l r (sym about ∙ e)
+    inShape : rowIn kinds value ≡ some (row k l r)
+    inShape = row-some (rowIn kinds value) k l r (sym about ∙ e)
 
-    pub row-turned : (j : ℕ) → j ≡ refusal (row k l r) → (j ≡ 0 → ⊥) → RowLine.Refused j ≡ rowLineOf (judged refusal (rowIn kinds whole))
-    row-turned j z n = refused-row refusal (rowIn kinds whole) (row k l r) j inShape z n
+    pub row-turned : (j : ℕ) → j ≡ refusal (row k l r) → (j ≡ 0 → ⊥) → RowLine.Refused j ≡ rowLineOf (judged refusal (rowIn kinds value))
+    row-turned j z n = refused-row refusal (rowIn kinds value) (row k l r) j inShape z n
 
-    pub row-taken : refusal (row k l r) ≡ 0 → RowLine.Row k l r ≡ rowLineOf (judged refusal (rowIn kinds whole))
-    row-taken z = passed-row refusal (rowIn kinds whole) k l r inShape z
+    pub row-taken : refusal (row k l r) ≡ 0 → RowLine.Row k l r ≡ rowLineOf (judged refusal (rowIn kinds value))
+    row-taken z = passed-row refusal (rowIn kinds value) k l r inShape z

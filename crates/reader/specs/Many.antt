@@ -8,6 +8,7 @@ use lib.Dec.{ltb}
 use lib.ListN.{length, take, drop, length-append, take-append-drop}
 use lib.Seq.{drop-at}
 use borrow.Author.Tests.{ltb-true, ltb-false}
+use Rattle.scope.specs.Tests.{never}
 use Rattle.scope.specs.Line.{Line, Read, ok, bad, Reader, Cut, parts, uncut, cut, Value, val, out, valued, placed, lineOf, line, strip, after, _>>=_, many, done}
 use Rattle.lines.specs.Parts.{upTo, cut-found, cut-none, restOf, lineRest}
 
@@ -50,12 +51,12 @@ module _ {A : Type 0} (item : List A → Reader A) where
       later : (a : A) (r : Read (List A)) → ((ys : List A) (t : List ℕ) → r ≡ ok ys t → length ys ≡ n) → after r (λ more. done (a ∷ more))
           ≡ ok xs rest → length xs ≡ suc n
       later a (ok ys t) f e = let g : xs ≡ a ∷ ys = cc in rw g (ap suc (f ys t refl))
-      later a (bad k i) f e = let z : _≡_ {A = ℕ} 0 1 = cc in absurd (omega arith)
+      later a (bad k i) f e = never cc
 
       go : ((b : List A) (t : List ℕ) (ys : List A) (u : List ℕ) → many item n b t ≡ ok ys u → length ys ≡ n) → (r : Read A)
           → after r (λ a. _>>=_ (many item n (before ++ (a ∷ []))) (λ more. done (a ∷ more))) ≡ ok xs rest → length xs ≡ suc n
       go f (ok a t) e = later a (many item n (before ++ (a ∷ [])) t) (f (before ++ (a ∷ [])) t) e
-      go f (bad k i) e = let z : _≡_ {A = ℕ} 0 1 = cc in absurd (omega arith)
+      go f (bad k i) e = never cc
 
 -- What is left of a text stands at its end.
 pub record Tail (rest s : List ℕ) : Type 0 where
@@ -101,10 +102,10 @@ line-ends {A} l refusal i = record { ends = λ s a rest e. go s a rest (cut 10 s
   where
     last : (s : List ℕ) (a : A) (rest r : List ℕ) (v : Value A) → placed i v r ≡ ok a rest → r ≡ restOf s → Tail rest s
     last s a rest r (val b) e f = let g : rest ≡ restOf s = cc in rw g (rest-tail s)
-    last s a rest r (out k) e f = let z : _≡_ {A = ℕ} 0 1 = cc in absurd (omega arith)
+    last s a rest r (out k) e f = never cc
 
     go : (s : List ℕ) (a : A) (rest : List ℕ) (c : Cut) → cut 10 s ≡ c → lineOf l refusal i c ≡ ok a rest → Tail rest s
-    go s a rest uncut f e = let z : _≡_ {A = ℕ} 0 1 = cc in absurd (omega arith)
+    go s a rest uncut f e = never cc
     go s a rest (parts t r) f e = last s a rest r (valued l refusal (strip (l .key) t)) e (rw f refl)
 
 pub seq-ends : {A B : Type 0} (m : Reader A) (f : A → Reader B) → Ends m → ((a : A) → Ends (f a)) → Ends (_>>=_ m f)
@@ -113,7 +114,7 @@ seq-ends {A} {B} m f p q = record { ends = λ s b rest e. go s b rest (m s) refl
   where
     go : (s : List ℕ) (b : B) (rest : List ℕ) (r : Read A) → m s ≡ r → after r f ≡ ok b rest → Tail rest s
     go s b rest (ok a t) g e = tail-more (q a .ends t b rest e) (p .ends s a t g)
-    go s b rest (bad k i) g e = let z : _≡_ {A = ℕ} 0 1 = cc in absurd (omega arith)
+    go s b rest (bad k i) g e = never cc
 
 pub many-ends : {A : Type 0} (item : List A → Reader A) (n : ℕ) (before : List A) → ((b : List A) → Ends (item b)) → Ends (many item n before)
 unfolding many

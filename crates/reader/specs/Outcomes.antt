@@ -7,6 +7,7 @@ use mathlib.Core.Bool.{Bool, true, false}
 use lib.ListN.{length, replicate}
 use lib.Dec.{leb}
 use borrow.Author.Tests.{leb-true, le-leb, lt-leb}
+use Rattle.scope.specs.Tests.{never}
 use Rattle.scope.specs.Form.{both}
 use Rattle.scope.specs.Request.{Row, Request}
 use Rattle.scope.specs.Line.{Read, ok, bad, after, _>>=_}
@@ -182,7 +183,7 @@ module _ (t : List ℕ) where
 
 -- Refused or read, an outcome is one of the two.
 pub outcome-never : {X : Type 0} (o : Outcome) (k i : ℕ) (q : Request) → o ≡ refused k i → o ≡ read q → X
-outcome-never o k i q e f = let z : _≡_ {A = ℕ} 0 1 = cc in absurd (omega arith)
+outcome-never o k i q e f = never cc
 
 pub same-request : (o : Outcome) (p q : Request) → o ≡ read p → o ≡ read q → p ≡ q
 same-request o p q e f = cc
@@ -193,7 +194,7 @@ refused-answer o x e = rw e refl
 
 pub refused-outcome : (o : Outcome) (x : Refusal) → readingOf o ≡ Reading.Refused x → o ≡ refused (x .number) (x .place)
 unfolding readingOf
-refused-outcome (read q) x e = let z : _≡_ {A = ℕ} 0 1 = cc in absurd (omega arith)
+refused-outcome (read q) x e = never cc
 refused-outcome (refused k i) x e =
     let f : record { number = k; place = i } ≡ x = cc in
     ap (λ (y : Refusal). refused (y .number) (y .place)) f
@@ -205,7 +206,7 @@ pub record Read-outcome (o : Outcome) : Type 0 where
 pub read-outcome : (o : Outcome) (c : Counts) → readingOf o ≡ Reading.Read c → Read-outcome o
 unfolding readingOf
 read-outcome (read q) c e = record { request = q; is = refl }
-read-outcome (refused k i) c e = let z : _≡_ {A = ℕ} 0 1 = cc in absurd (omega arith)
+read-outcome (refused k i) c e = never cc
 
 -- 'Order: 13, 1, then lines in order.'
 module _ (forms lines steps : ℕ) (s : List ℕ) where
@@ -259,6 +260,6 @@ room-is forms lines steps e = go (leb 3072 forms) (leb 128 lines) (leb 4096 step
   where
     go : (a b c : Bool) → leb 3072 forms ≡ a → leb 128 lines ≡ b → leb 4096 steps ≡ c → both a (both b c) ≡ true → Room forms lines steps
     go true true true p q r e = record { formRoom = leb-true 3072 forms p; lineRoom = leb-true 128 lines q; stepRoom = leb-true 4096 steps r }
-    go true true false p q r e = let z : _≡_ {A = ℕ} 0 1 = cc in absurd (omega arith)
-    go true false c p q r e = let z : _≡_ {A = ℕ} 0 1 = cc in absurd (omega arith)
-    go false b c p q r e = let z : _≡_ {A = ℕ} 0 1 = cc in absurd (omega arith)
+    go true true false p q r e = never cc
+    go true false c p q r e = never cc
+    go false b c p q r e = never cc

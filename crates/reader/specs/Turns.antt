@@ -5,6 +5,7 @@ use native.Mathlib.Omega.{arith}
 use mathlib.Core.Path.{_≡_, refl, ap, sym, subst, _∙_}
 use mathlib.Core.List.{List, [], _∷_, _++_}
 use lib.ListN.{length}
+use Rattle.scope.specs.Tests.{never}
 use Rattle.scope.specs.Bytes.{bytes}
 use Rattle.scope.specs.Number.{number}
 use Rattle.scope.specs.Request.{Row}
@@ -19,9 +20,10 @@ use Rattle.lines.specs.Parts.{valueOf, restOf}
 use Rattle.refusals.specs.Rows.{row}
 use Rattle.reader.specs.Sections.{Counted, headPart, classRefusal, classedItem}
 use Rattle.reader.specs.Answers.{refusalIs, numberLineOf, rowLineOf, sectionOf, headOf}
-use Rattle.reader.specs.Lines.{no-form, no-step, row-ok, row-bad, number-ok, number-bad}
+use Rattle.reader.specs.Lines.{no-form, no-step, row-ok, row-bad, value-ok, value-bad}
 use Rattle.reader.specs.Many.{onto, many-more, many-stop, many-end, many-start, tail-length, rest-tail}
 use Rattle.reader.specs.declared.NumberLine.the-variants as NumberLine
+use Rattle.reader.specs.declared.RowLine.{RowLine}
 use Rattle.reader.specs.declared.RowLine.the-variants as RowLine
 use Rattle.reader.specs.declared.Section.the-variants as Section
 use Rattle.reader.specs.declared.Head.the-variants as Head
@@ -61,56 +63,53 @@ module _ {A : Type 0} (n : ℕ) (r : Read (List A)) where
   section-read xs rest e = rw e refl
 
 pub never-both : {A : Type 0} {X : Type 0} (r : Read A) (k i : ℕ) (a : A) (rest : List ℕ) → r ≡ bad k i → r ≡ ok a rest → X
-never-both r k i a rest e f = let z : _≡_ {A = ℕ} 0 1 = cc in absurd (omega arith)
+never-both r k i a rest e f = never cc
 
 pub same-things : {A : Type 0} (r : Read A) (a b : A) (s t : List ℕ) → r ≡ ok a s → r ≡ ok b t → a ≡ b
 same-things r a b s t e f = cc
 
--- A `form=` line behind those before it.
-module _ (principals atoms : ℕ) (before : List Row) (s : List ℕ) (i : ℕ) (is : length before ≡ i) where
+-- A `form=` line behind those before it, by its value v.
+module _ (principals atoms : ℕ) (before : List Row) (s v : List ℕ) (part : v ≡ valueOf (bytes "form=") s) (i : ℕ) (is : length before ≡ i) where
+  at-length : (a : RowLine) → rowLineOf (judged (rowRefusal formKinds principals atoms i) (rowIn formKinds v)) ≡ a
+      → rowLineOf (judged (rowRefusal formKinds principals atoms (length before)) (rowIn formKinds v)) ≡ a
+  at-length a h = subst (λ j. rowLineOf (judged (rowRefusal formKinds principals atoms j) (rowIn formKinds v)) ≡ a) (sym is) h
+
   pub form-ok : (rest : List ℕ) (k l r : ℕ) → rest ≡ restOf s
-      → rowLineOf (judged (rowRefusal formKinds principals atoms i) (rowIn formKinds (valueOf (bytes "form=") s))) ≡ RowLine.Row k l r
+      → rowLineOf (judged (rowRefusal formKinds principals atoms i) (rowIn formKinds v)) ≡ RowLine.Row k l r
       → formItem principals atoms before s ≡ ok (row k l r) rest
   unfolding formRefusal
   form-ok rest k l r e h =
-      row-ok "form=" formKinds (formRefusal principals atoms before) (5 + length before) s no-form rest k l r e
-      (subst (λ j. rowLineOf (judged (rowRefusal formKinds principals atoms j) (rowIn formKinds (valueOf (bytes "form=") s)))
-      ≡ RowLine.Row k l r) (sym is) h)
+      row-ok "form=" formKinds (formRefusal principals atoms before) s v part no-form (5 + length before) rest k l r e
+      (at-length (RowLine.Row k l r) h)
 
-  pub form-bad : (k : ℕ)
-      → rowLineOf (judged (rowRefusal formKinds principals atoms i) (rowIn formKinds (valueOf (bytes "form=") s))) ≡ RowLine.Refused k
+  pub form-bad : (k : ℕ) → rowLineOf (judged (rowRefusal formKinds principals atoms i) (rowIn formKinds v)) ≡ RowLine.Refused k
       → formItem principals atoms before s ≡ bad k (5 + i)
   unfolding formRefusal
   form-bad k h =
-      row-bad "form=" formKinds (formRefusal principals atoms before) (5 + length before) s no-form k
-      (subst (λ j. rowLineOf (judged (rowRefusal formKinds principals atoms j) (rowIn formKinds (valueOf (bytes "form=") s)))
-      ≡ RowLine.Refused k) (sym is) h) ∙
-      ap (λ j. bad k (5 + j)) is
+      row-bad "form=" formKinds (formRefusal principals atoms before) s v part no-form (5 + length before) k
+      (at-length (RowLine.Refused k) h) ∙ ap (λ j. bad k (5 + j)) is
 
-module _ (classes : List ℕ) (formulas : ℕ) (before : List ℕ) (s : List ℕ) (i : ℕ) (is : length before ≡ i) where
+module _ (classes : List ℕ) (formulas : ℕ) (before s v : List ℕ) (part : v ≡ valueOf (bytes "clause=") s) (i : ℕ) (is : length before ≡ i) where
   pub clause-ok : (rest : List ℕ) (f : ℕ) → rest ≡ restOf s
-      → numberLineOf (judged (classRefusal policyIn classes formulas) (number (valueOf (bytes "clause=") s))) ≡ NumberLine.Number f
+      → numberLineOf (judged (classRefusal policyIn classes formulas) (number v)) ≡ NumberLine.Number f
       → classedItem classes formulas before s ≡ ok f rest
-  clause-ok rest f e h = number-ok "clause=" (classRefusal policyIn classes formulas) (clauseAt formulas (length before)) s rest f e h
+  clause-ok rest f e h = value-ok "clause=" (classRefusal policyIn classes formulas) s v part (clauseAt formulas (length before)) rest f e h
 
-  pub clause-bad : (k : ℕ)
-      → numberLineOf (judged (classRefusal policyIn classes formulas) (number (valueOf (bytes "clause=") s))) ≡ NumberLine.Refused k
+  pub clause-bad : (k : ℕ) → numberLineOf (judged (classRefusal policyIn classes formulas) (number v)) ≡ NumberLine.Refused k
       → classedItem classes formulas before s ≡ bad k (clauseAt formulas i)
   clause-bad k h =
-      number-bad "clause=" (classRefusal policyIn classes formulas) (clauseAt formulas (length before)) s k h ∙
+      value-bad "clause=" (classRefusal policyIn classes formulas) s v part (clauseAt formulas (length before)) k h ∙
       ap (λ j. bad k (clauseAt formulas j)) is
 
-module _ (formulas clauses : ℕ) (before : List Row) (s : List ℕ) (i : ℕ) (is : length before ≡ i) where
-  pub step-ok : (rest : List ℕ) (k l r : ℕ) → rest ≡ restOf s
-      → rowLineOf (judged stepRefusal (rowIn stepKinds (valueOf (bytes "step=") s))) ≡ RowLine.Row k l r
+module _ (formulas clauses : ℕ) (before : List Row) (s v : List ℕ) (part : v ≡ valueOf (bytes "step=") s) (i : ℕ) (is : length before ≡ i) where
+  pub step-ok : (rest : List ℕ) (k l r : ℕ) → rest ≡ restOf s → rowLineOf (judged stepRefusal (rowIn stepKinds v)) ≡ RowLine.Row k l r
       → stepItem formulas clauses before s ≡ ok (row k l r) rest
-  step-ok rest k l r e h = row-ok "step=" stepKinds stepRefusal (stepAt formulas clauses (suc (length before))) s no-step rest k l r e h
+  step-ok rest k l r e h = row-ok "step=" stepKinds stepRefusal s v part no-step (stepAt formulas clauses (suc (length before))) rest k l r e h
 
-  pub step-bad : (k : ℕ)
-      → rowLineOf (judged stepRefusal (rowIn stepKinds (valueOf (bytes "step=") s))) ≡ RowLine.Refused k
+  pub step-bad : (k : ℕ) → rowLineOf (judged stepRefusal (rowIn stepKinds v)) ≡ RowLine.Refused k
       → stepItem formulas clauses before s ≡ bad k (8 + formulas + clauses + i)
   step-bad k h =
-      row-bad "step=" stepKinds stepRefusal (stepAt formulas clauses (suc (length before))) s no-step k h ∙
+      row-bad "step=" stepKinds stepRefusal s v part no-step (stepAt formulas clauses (suc (length before))) k h ∙
       ap (λ j. bad k j) (let e : stepAt formulas clauses (suc (length before)) ≡ 8 + formulas + clauses + i = omega arith in e)
 
 -- The first four lines.

@@ -8,21 +8,19 @@ ghost use Prim.Native.Nat.{_≤_};
 ghost use mathlib.Core.List.{List, []};
 ghost use Prim.Native.Nat.{ℕ};
 ghost use lib.ListN.{length, replicate};
-ghost use Rattle.scope.specs.Bytes.{bytes};
 ghost use Rattle.scope.specs.Line.{judged, many, ok};
 ghost use Rattle.scope.specs.Kinds.{formKinds, rowIn};
 ghost use Rattle.scope.specs.Refusals.{rowRefusal};
 ghost use Rattle.scope.specs.Request.{Row as FormRow};
 ghost use Rattle.scope.specs.Reader.{formItem};
 ghost use Rattle.scope.specs.Tables.{table, formEntry};
-ghost use Rattle.lines.specs.Parts.{valueOf};
 ghost use Rattle.reader.specs.Answers.{rowLineOf, sectionOf, formulasOf, formulaCount};
 ghost use Rattle.reader.specs.Sections.{Formulas, formulasPart};
 
-fn form_line(text: &[u8], principals: u16, atoms: u16, formula: u16) -> RowLine
-    ensures { λ r. ⌜ r ≡ rowLineOf (judged (rowRefusal formKinds principals atoms formula) (rowIn formKinds (valueOf (bytes "form=") (now (text .entry))))) ⌝ }
+// The value of a `form=` line.
+fn form_line(value: &[u8], principals: u16, atoms: u16, formula: u16) -> RowLine
+    ensures { λ r. ⌜ r ≡ rowLineOf (judged (rowRefusal formKinds principals atoms formula) (rowIn formKinds (now (value .entry)))) ⌝ }
 {
-    let value = lines::value_of(text, b"form=");
     let got = lines::form_row(value);
     let Row::Items(kind, left, right) = got else {
         return RowLine::Refused(2);
@@ -45,7 +43,8 @@ fn read_forms(text: &[u8], principals: u16, atoms: u16, formulas: u16, forms: &m
     let mut rest = text;
     let mut i: u16 = 0;
     while i < formulas {
-        let got = form_line(rest, principals, atoms, i);
+        let value = lines::value_of(rest, b"form=");
+        let got = form_line(value, principals, atoms, i);
         let RowLine::Row(kind, left, right) = got else {
             let place = 5 + i as u32;
             return Section::Refused(crate::row_refused(got, place));
@@ -56,7 +55,8 @@ fn read_forms(text: &[u8], principals: u16, atoms: u16, formulas: u16, forms: &m
         forms[at] = kind;
         forms[second] = left;
         forms[third] = right;
-        let next = lines::rest_of(rest);
+        let past = value.len() + 6;
+        let next = &rest[past..];
         rest = next;
         i += 1;
     }

@@ -16,11 +16,10 @@ ghost use Rattle.lines.specs.Parts.{valueOf};
 ghost use Rattle.reader.specs.Answers.{numberLineOf, sectionOf, policyOf};
 ghost use Rattle.reader.specs.Sections.{belowRefusal, classRefusal, classedItem, PolicyRead, policyPart};
 
-// A line with a formula number.
-fn formula_line(text: &[u8], key: &[u8], formulas: u16) -> NumberLine
-    ensures { λ r. ⌜ r ≡ numberLineOf (judged (belowRefusal formulas) (number (valueOf (now (key .entry)) (now (text .entry))))) ⌝ }
+// The value of a line with a formula number.
+fn formula_line(value: &[u8], formulas: u16) -> NumberLine
+    ensures { λ r. ⌜ r ≡ numberLineOf (judged (belowRefusal formulas) (number (now (value .entry)))) ⌝ }
 {
-    let value = lines::value_of(text, key);
     let got = lines::read_number(value);
     let Number::Value(n) = got else {
         return NumberLine::Refused(2);
@@ -38,10 +37,11 @@ fn class_in(classes: &[u8], formula: u16) -> u8
     if at < classes.len() { classes[at] } else { 0 }
 }
 
-fn clause_line(text: &[u8], formulas: u16, classes: &[u8]) -> NumberLine
-    ensures { λ r. ⌜ r ≡ numberLineOf (judged (classRefusal policyIn (now (classes .entry)) formulas) (number (valueOf (bytes "clause=") (now (text .entry))))) ⌝ }
+// The value of a `clause=` line.
+fn clause_line(value: &[u8], formulas: u16, classes: &[u8]) -> NumberLine
+    ensures { λ r. ⌜ r ≡ numberLineOf (judged (classRefusal policyIn (now (classes .entry)) formulas) (number (now (value .entry)))) ⌝ }
 {
-    let got = formula_line(text, b"clause=", formulas);
+    let got = formula_line(value, formulas);
     let NumberLine::Number(f) = got else {
         return got;
     };
@@ -55,7 +55,8 @@ fn clause_line(text: &[u8], formulas: u16, classes: &[u8]) -> NumberLine
 fn goal_line(text: &[u8], formulas: u16, classes: &[u8]) -> NumberLine
     ensures { λ r. ⌜ r ≡ numberLineOf (judged (classRefusal goalIn (now (classes .entry)) formulas) (number (valueOf (bytes "goal=") (now (text .entry))))) ⌝ }
 {
-    let got = formula_line(text, b"goal=", formulas);
+    let value = lines::value_of(text, b"goal=");
+    let got = formula_line(value, formulas);
     let NumberLine::Number(f) = got else {
         return got;
     };
@@ -80,14 +81,16 @@ fn read_clauses(
     let mut rest = text;
     let mut i: u16 = 0;
     while i < clauses {
-        let got = clause_line(rest, formulas, classes);
+        let value = lines::value_of(rest, b"clause=");
+        let got = clause_line(value, formulas, classes);
         let NumberLine::Number(f) = got else {
             let place = 6 + formulas as u32 + i as u32;
             return Section::Refused(crate::number_refused(got, place));
         };
         let at = i as usize;
         policy[at] = f;
-        let next = lines::rest_of(rest);
+        let past = value.len() + 8;
+        let next = &rest[past..];
         rest = next;
         i += 1;
     }

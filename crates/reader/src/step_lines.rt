@@ -8,21 +8,19 @@ ghost use mathlib.Core.Path.{_≡_};
 ghost use Prim.Native.Nat.{ℕ, _≤_};
 ghost use mathlib.Core.List.{List, []};
 ghost use lib.ListN.{length, replicate};
-ghost use Rattle.scope.specs.Bytes.{bytes};
 ghost use Rattle.scope.specs.Line.{judged, many, ok};
 ghost use Rattle.scope.specs.Kinds.{stepKinds, rowIn};
 ghost use Rattle.scope.specs.Refusals.{stepRefusal};
 ghost use Rattle.scope.specs.Request.{Row as StepRow};
 ghost use Rattle.scope.specs.Reader.{stepItem};
 ghost use Rattle.scope.specs.Tables.{table, stepEntry};
-ghost use Rattle.lines.specs.Parts.{valueOf};
 ghost use Rattle.reader.specs.Answers.{rowLineOf, sectionOf, stepsOf};
 ghost use Rattle.reader.specs.Sections.{stepsPart};
 
-fn step_line(text: &[u8]) -> RowLine
-    ensures { λ r. ⌜ r ≡ rowLineOf (judged stepRefusal (rowIn stepKinds (valueOf (bytes "step=") (now (text .entry))))) ⌝ }
+// The value of a `step=` line.
+fn step_line(value: &[u8]) -> RowLine
+    ensures { λ r. ⌜ r ≡ rowLineOf (judged stepRefusal (rowIn stepKinds (now (value .entry)))) ⌝ }
 {
-    let value = lines::value_of(text, b"step=");
     let got = lines::step_row(value);
     let Row::Items(kind, left, right) = got else {
         return RowLine::Refused(2);
@@ -45,7 +43,8 @@ fn read_steps(text: &[u8], formulas: u16, clauses: u16, count: u16, steps: &mut 
     let mut rest = text;
     let mut i: u16 = 0;
     while i < count {
-        let got = step_line(rest);
+        let value = lines::value_of(rest, b"step=");
+        let got = step_line(value);
         let RowLine::Row(kind, left, _) = got else {
             let place = 8 + formulas as u32 + clauses as u32 + i as u32;
             return Section::Refused(crate::row_refused(got, place));
@@ -54,7 +53,8 @@ fn read_steps(text: &[u8], formulas: u16, clauses: u16, count: u16, steps: &mut 
         let second = at + 1;
         steps[at] = kind;
         steps[second] = left;
-        let next = lines::rest_of(rest);
+        let past = value.len() + 6;
+        let next = &rest[past..];
         rest = next;
         i += 1;
     }

@@ -1,21 +1,13 @@
 -- `reader::form_lines::form_line` meets its contract: out of shape is 2, and a row in shape has its own refusal; one that passes is small.
 use mathlib.Core.Path.{sym, _∙_}
-use Rattle.scope.specs.Bytes.{bytes}
 use Rattle.scope.specs.Kinds.{formKinds}
 use Rattle.scope.specs.Refusals.{rowRefusal}
-use Rattle.lines.specs.Parts.{valueOf}
 use Rattle.reader.specs.Lines.{row-lost, row-turned, row-taken}
 use Rattle.refusals.specs.Rows.{form-small}
 use borrow.Author.Needs.{needs}
 use native.Mathlib.Omega.{arith}
 use Rattle.reader.proofs.form_lines.form_line.Statement.{statement}
 use Rattle.reader.proofs.form_lines.form_line.Tie as tie
-
-slice-aggregate-value-of : tie.Need-slice-aggregate-value-of
-slice-aggregate-value-of c = search needs
-
-value-of-requires : tie.Need-value-of-requires
-value-of-requires c κs = search needs
 
 form-row-requires : tie.Need-form-row-requires
 form-row-requires c κs = search needs
@@ -28,11 +20,9 @@ enum-told c = search needs
 
 returns : tie.Need-returns
 returns c =
-    row-lost formKinds (rowRefusal formKinds (c .before .before .before .before .before .before .args .principals)
-    (c .before .before .before .before .before .before .args .atoms) (c .before .before .before .before .before .before .args .formula))
-    (c .before .before .before .value-of .result .now)
-    (valueOf (bytes "form=") (c .before .before .before .before .before .before .args .text .now))
-    (c .before .before .before .value-of .ensures) (c .before .before .form-row .result) (c .before .before .form-row .ensures)
+    row-lost formKinds (rowRefusal formKinds (c .before .before .before .before .args .principals)
+    (c .before .before .before .before .args .atoms) (c .before .before .before .before .args .formula))
+    (c .before .before .before .before .args .value .now) (c .before .before .form-row .result) (c .before .before .form-row .ensures)
     (c .enum-told .given .1)
 
 form-refusal-requires : tie.Need-form-refusal-requires
@@ -40,12 +30,11 @@ form-refusal-requires c κs = search needs
 
 returns-2 : tie.Need-returns-2
 returns-2 c =
-    row-turned formKinds (rowRefusal formKinds (c .before .before .before .before .before .before .before .before .before .args .principals)
-    (c .before .before .before .before .before .before .before .before .before .args .atoms)
-    (c .before .before .before .before .before .before .before .before .before .args .formula))
-    (c .before .before .before .before .before .before .value-of .result .now)
-    (valueOf (bytes "form=") (c .before .before .before .before .before .before .before .before .before .args .text .now))
-    (c .before .before .before .before .before .before .value-of .ensures) (c .before .before .before .before .before .form-row .result)
+    row-turned formKinds (rowRefusal formKinds (c .before .before .before .before .before .before .before .args .principals)
+    (c .before .before .before .before .before .before .before .args .atoms)
+    (c .before .before .before .before .before .before .before .args .formula))
+    (c .before .before .before .before .before .before .before .args .value .now)
+    (c .before .before .before .before .before .form-row .result)
     (c .before .before .before .before .before .form-row .ensures)
     (c .before .before .before .got .given .0 .0) (c .before .before .before .got .given .0 .1 .0)
     (c .before .before .before .got .given .0 .1 .1 .0) (c .before .before .before .got .given .1)
@@ -53,48 +42,47 @@ returns-2 c =
 
 cast-k : tie.Need-cast-k
 cast-k c =
-    let s = form-small (c .before .before .before .before .before .before .before .before .before .args .principals)
-    (c .before .before .before .before .before .before .before .before .before .args .atoms)
-    (c .before .before .before .before .before .before .before .before .before .args .formula)
+    let s = form-small (c .before .before .before .before .before .before .before .args .principals)
+    (c .before .before .before .before .before .before .before .args .atoms)
+    (c .before .before .before .before .before .before .before .args .formula)
     (c .before .before .before .got .given .0 .1 .0) (c .before .before .before .got .given .0 .1 .1 .0)
-    (c .before .before .before .before .before .before .before .before .before .fits .principals .fits)
-    (c .before .before .before .before .before .before .before .before .before .fits .atoms .fits)
-    (c .before .before .before .before .before .before .before .before .before .fits .formula .fits)
+    (c .before .before .before .before .before .before .before .fits .principals .fits)
+    (c .before .before .before .before .before .before .before .fits .atoms .fits)
+    (c .before .before .before .before .before .before .before .fits .formula .fits)
     (c .before .before .before .got .given .0 .0) (sym (c .before .form-refusal .ensures) ∙ c .if1 .left) in
     omega (arith, s .kinds)
 
 cast-x : tie.Need-cast-x
 cast-x c =
-    let s = form-small (c .before .before .before .before .before .before .before .before .before .args .principals)
-    (c .before .before .before .before .before .before .before .before .before .args .atoms)
-    (c .before .before .before .before .before .before .before .before .before .args .formula)
+    let s = form-small (c .before .before .before .before .before .before .before .args .principals)
+    (c .before .before .before .before .before .before .before .args .atoms)
+    (c .before .before .before .before .before .before .before .args .formula)
     (c .before .before .before .got .given .0 .1 .0) (c .before .before .before .got .given .0 .1 .1 .0)
-    (c .before .before .before .before .before .before .before .before .before .fits .principals .fits)
-    (c .before .before .before .before .before .before .before .before .before .fits .atoms .fits)
-    (c .before .before .before .before .before .before .before .before .before .fits .formula .fits)
+    (c .before .before .before .before .before .before .before .fits .principals .fits)
+    (c .before .before .before .before .before .before .before .fits .atoms .fits)
+    (c .before .before .before .before .before .before .before .fits .formula .fits)
     (c .before .before .before .got .given .0 .0) (sym (c .before .form-refusal .ensures) ∙ c .if1 .left) in
     omega (arith, s .lefts)
 
 cast-y : tie.Need-cast-y
 cast-y c =
-    let s = form-small (c .before .before .before .before .before .before .before .before .before .args .principals)
-    (c .before .before .before .before .before .before .before .before .before .args .atoms)
-    (c .before .before .before .before .before .before .before .before .before .args .formula)
+    let s = form-small (c .before .before .before .before .before .before .before .args .principals)
+    (c .before .before .before .before .before .before .before .args .atoms)
+    (c .before .before .before .before .before .before .before .args .formula)
     (c .before .before .before .got .given .0 .1 .0) (c .before .before .before .got .given .0 .1 .1 .0)
-    (c .before .before .before .before .before .before .before .before .before .fits .principals .fits)
-    (c .before .before .before .before .before .before .before .before .before .fits .atoms .fits)
-    (c .before .before .before .before .before .before .before .before .before .fits .formula .fits)
+    (c .before .before .before .before .before .before .before .fits .principals .fits)
+    (c .before .before .before .before .before .before .before .fits .atoms .fits)
+    (c .before .before .before .before .before .before .before .fits .formula .fits)
     (c .before .before .before .got .given .0 .0) (sym (c .before .form-refusal .ensures) ∙ c .if1 .left) in
     omega (arith, s .rights)
 
 returns-3 : tie.Need-returns-3
 returns-3 c =
-    row-taken formKinds (rowRefusal formKinds (c .before .before .before .before .before .before .before .before .before .args .principals)
-    (c .before .before .before .before .before .before .before .before .before .args .atoms)
-    (c .before .before .before .before .before .before .before .before .before .args .formula))
-    (c .before .before .before .before .before .before .value-of .result .now)
-    (valueOf (bytes "form=") (c .before .before .before .before .before .before .before .before .before .args .text .now))
-    (c .before .before .before .before .before .before .value-of .ensures) (c .before .before .before .before .before .form-row .result)
+    row-taken formKinds (rowRefusal formKinds (c .before .before .before .before .before .before .before .args .principals)
+    (c .before .before .before .before .before .before .before .args .atoms)
+    (c .before .before .before .before .before .before .before .args .formula))
+    (c .before .before .before .before .before .before .before .args .value .now)
+    (c .before .before .before .before .before .form-row .result)
     (c .before .before .before .before .before .form-row .ensures)
     (c .before .before .before .got .given .0 .0) (c .before .before .before .got .given .0 .1 .0)
     (c .before .before .before .got .given .0 .1 .1 .0) (c .before .before .before .got .given .1)
@@ -104,8 +92,6 @@ pub form-line-spec : {M : Type 1} → statement M
 form-line-spec =
     tie.close
     (tie.spec
-    slice-aggregate-value-of
-    value-of-requires
     form-row-requires
     enum-known-got
     enum-told

@@ -8,14 +8,18 @@ use Rattle.scope.specs.Line.{judged, settled}
 use Rattle.scope.specs.Refusals.{demand}
 use Rattle.lines.specs.Parts.{valueOf}
 use Rattle.classes.specs.Class.{goalIn}
-use Rattle.reader.specs.Sections.{classRefusal}
+use Rattle.reader.specs.Sections.{belowRefusal, classRefusal}
+use Rattle.reader.specs.Answers.{numberLineOf}
 use Rattle.reader.specs.Lines.{number-out, number-val, class-before, class-after}
 use borrow.Author.Needs.{needs}
 use Rattle.reader.proofs.policy_lines.goal_line.Statement.{statement}
 use Rattle.reader.proofs.policy_lines.goal_line.Tie as tie
 
-slice-aggregate-formula-line : tie.Need-slice-aggregate-formula-line
-slice-aggregate-formula-line c = search needs
+slice-aggregate-value-of : tie.Need-slice-aggregate-value-of
+slice-aggregate-value-of c = search needs
+
+value-of-requires : tie.Need-value-of-requires
+value-of-requires c κs = search needs
 
 formula-line-requires : tie.Need-formula-line-requires
 formula-line-requires c κs = search needs
@@ -26,12 +30,20 @@ enum-known-got c = search needs
 enum-told : tie.Need-enum-told
 enum-told c = search needs
 
+found : (c : tie.After-formula-line) → c .formula-line .result ≡ numberLineOf
+    (judged (belowRefusal (c .before .before .before .before .before .args .formulas))
+    (number (valueOf (bytes "goal=") (c .before .before .before .before .before .args .text .now))))
+found c =
+    c .formula-line .ensures ∙ ap
+    (λ t. numberLineOf (judged (belowRefusal (c .before .before .before .before .before .args .formulas)) (number t)))
+    (c .before .value-of .ensures)
+
 returns : tie.Need-returns
 returns c =
-    c .enum-told .given .1 ∙ class-before goalIn (c .before .before .before .before .before .before .args .classes .now)
-    (c .before .before .before .before .before .before .args .formulas)
-    (number (valueOf (bytes "goal=") (c .before .before .before .before .before .before .args .text .now))) _
-    (sym (c .before .before .formula-line .ensures) ∙ c .enum-told .given .1)
+    c .enum-told .given .1 ∙ class-before goalIn (c .before .before .before .before .before .before .before .args .classes .now)
+    (c .before .before .before .before .before .before .before .args .formulas)
+    (number (valueOf (bytes "goal=") (c .before .before .before .before .before .before .before .args .text .now))) _
+    (sym (found (c .before .before)) ∙ c .enum-told .given .1)
 
 class-in-requires : tie.Need-class-in-requires
 class-in-requires c κs = search needs
@@ -42,40 +54,45 @@ is-goal-requires c κs = search needs
 returns-2 : tie.Need-returns-2
 unfolding settled demand
 returns-2 c = let f = c .before .before .before .before .got .given .0 .0 in
-    let e = class-after goalIn (c .before .before .before .before .before .before .before .before .before .before .args .classes .now)
-    (c .before .before .before .before .before .before .before .before .before .before .args .formulas)
+    let e = class-after goalIn
+    (c .before .before .before .before .before .before .before .before .before .before .before .args .classes .now)
+    (c .before .before .before .before .before .before .before .before .before .before .before .args .formulas)
     (number (valueOf (bytes "goal=")
-    (c .before .before .before .before .before .before .before .before .before .before .args .text .now))) f
-    (sym (c .before .before .before .before .before .before .formula-line .ensures) ∙ c .before .before .before .before .got .given .1) in
-    let t : goalIn (getD (c .before .before .before .before .before .before .before .before .before .before .args .classes .now) f 0)
+    (c .before .before .before .before .before .before .before .before .before .before .before .args .text .now))) f
+    (sym (found (c .before .before .before .before .before .before)) ∙ c .before .before .before .before .got .given .1) in
+    let t : goalIn
+    (getD (c .before .before .before .before .before .before .before .before .before .before .before .args .classes .now) f 0)
     ≡ true = ap goalIn (sym (c .before .before .class-in .ensures)) ∙ sym (c .before .is-goal .ensures) ∙ c .if1 .taken in
     number-val (judged (classRefusal goalIn
-    (c .before .before .before .before .before .before .before .before .before .before .args .classes .now)
-    (c .before .before .before .before .before .before .before .before .before .before .args .formulas))
+    (c .before .before .before .before .before .before .before .before .before .before .before .args .classes .now)
+    (c .before .before .before .before .before .before .before .before .before .before .before .args .formulas))
     (number (valueOf (bytes "goal=")
-    (c .before .before .before .before .before .before .before .before .before .before .args .text .now)))) f (e ∙ rw t refl)
+    (c .before .before .before .before .before .before .before .before .before .before .before .args .text .now)))) f (e ∙ rw t refl)
 
 returns-3 : tie.Need-returns-3
 unfolding settled demand
 returns-3 c = let f = c .before .before .before .before .got .given .0 .0 in
-    let e = class-after goalIn (c .before .before .before .before .before .before .before .before .before .before .args .classes .now)
-    (c .before .before .before .before .before .before .before .before .before .before .args .formulas)
+    let e = class-after goalIn
+    (c .before .before .before .before .before .before .before .before .before .before .before .args .classes .now)
+    (c .before .before .before .before .before .before .before .before .before .before .before .args .formulas)
     (number (valueOf (bytes "goal=")
-    (c .before .before .before .before .before .before .before .before .before .before .args .text .now))) f
-    (sym (c .before .before .before .before .before .before .formula-line .ensures) ∙ c .before .before .before .before .got .given .1) in
-    let t : goalIn (getD (c .before .before .before .before .before .before .before .before .before .before .args .classes .now) f 0)
+    (c .before .before .before .before .before .before .before .before .before .before .before .args .text .now))) f
+    (sym (found (c .before .before .before .before .before .before)) ∙ c .before .before .before .before .got .given .1) in
+    let t : goalIn
+    (getD (c .before .before .before .before .before .before .before .before .before .before .before .args .classes .now) f 0)
     ≡ false = ap goalIn (sym (c .before .before .class-in .ensures)) ∙ sym (c .before .is-goal .ensures) ∙ c .if1 .left in
     number-out (judged (classRefusal goalIn
-    (c .before .before .before .before .before .before .before .before .before .before .args .classes .now)
-    (c .before .before .before .before .before .before .before .before .before .before .args .formulas))
+    (c .before .before .before .before .before .before .before .before .before .before .before .args .classes .now)
+    (c .before .before .before .before .before .before .before .before .before .before .before .args .formulas))
     (number (valueOf (bytes "goal=")
-    (c .before .before .before .before .before .before .before .before .before .before .args .text .now)))) 5 (e ∙ rw t refl)
+    (c .before .before .before .before .before .before .before .before .before .before .before .args .text .now)))) 5 (e ∙ rw t refl)
 
 pub goal-line-spec : {M : Type 1} → statement M
 goal-line-spec =
     tie.close
     (tie.spec
-    slice-aggregate-formula-line
+    slice-aggregate-value-of
+    value-of-requires
     formula-line-requires
     enum-known-got
     enum-told

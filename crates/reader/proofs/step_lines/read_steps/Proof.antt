@@ -3,13 +3,17 @@
 use Prim.Native.Nat.{_+_, _-_, _*_, _≤_}
 use mathlib.Core.Path.{_≡_, refl, ap, sym, _∙_}
 use mathlib.Core.List.{List, [], _∷_, _++_}
-use lib.ListN.{length, length-append, length-set}
+use lib.ListN.{length, take, drop, length-append, length-set}
 use Rattle.scope.specs.Line.{many}
+use Rattle.scope.specs.Kinds.{stepKinds}
+use Rattle.scope.specs.Refusals.{stepRefusal}
 use Rattle.scope.specs.Request.{Row}
 use Rattle.scope.specs.Reader.{stepItem}
 use Rattle.scope.specs.Tables.{table, stepEntry}
 use Rattle.refusals.specs.Rows.{row}
+use Rattle.lines.specs.Values.{Behind}
 use Rattle.reader.specs.Answers.{refusalIs, rowRefused}
+use Rattle.reader.specs.Lines.{no-step, row-behind}
 use Rattle.reader.specs.Many.{onto}
 use Rattle.reader.specs.Stored.{table-none, step-more}
 use Rattle.reader.specs.Turns.{rest-short, turns-begin, turn-more, turn-stops, turns-end, section-refused, section-read, never-both, same-things, step-ok, step-bad}
@@ -20,14 +24,14 @@ use Rattle.reader.proofs.step_lines.read_steps.Statement.{statement}
 use Rattle.reader.proofs.step_lines.read_steps.Tie as tie
 
 abbrev Inv-loop : tie.InvT-loop
-Inv-loop text formulas clauses count steps₀ rest₀ i₀ steps rest i =
+Inv-loop text formulas clauses count steps₀ rest₀ i₀ key steps rest i =
     (before : List Row) × (length before ≡ i) × (i ≤ count) × (length steps ≡ length steps₀) ×
     (steps ≡ table stepEntry (length steps₀) before) ×
     (many (stepItem formulas clauses) count [] text ≡ onto before (many (stepItem formulas clauses) (count - i) before rest)) ×
     (length rest ≤ length text)
 
 abbrev μ-loop : tie.MeasureT-loop
-μ-loop text formulas clauses count steps₀ rest₀ i₀ steps rest i = count - i
+μ-loop text formulas clauses count steps₀ rest₀ i₀ key steps rest i = count - i
 
 loop-holds : tie.Need-loop-holds Inv-loop μ-loop
 loop-holds c = (
@@ -40,6 +44,12 @@ loop-holds c = (
       (c .before .before .args .text .now),
   omega arith,
 )
+
+slice-aggregate-value-of : tie.Need-slice-aggregate-value-of Inv-loop μ-loop
+slice-aggregate-value-of c = search needs
+
+value-of-requires : tie.Need-value-of-requires Inv-loop μ-loop
+value-of-requires c κs = search needs
 
 step-line-requires : tie.Need-step-line-requires Inv-loop μ-loop
 step-line-requires c κs = search needs
@@ -54,166 +64,184 @@ add-place : tie.Need-add-place Inv-loop μ-loop
 add-place c =
     omega (
       arith,
-      c .before .before .before .before .before .before .before .pre .0,
-      c .before .before .before .before .before .before .before .fits .formulas .fits,
-      c .before .before .before .before .before .before .before .fits .clauses .fits,
+      c .before .before .before .before .before .before .before .before .before .pre .0,
+      c .before .before .before .before .before .before .before .before .before .fits .formulas .fits,
+      c .before .before .before .before .before .before .before .before .before .fits .clauses .fits,
     )
 
 add-place-2 : tie.Need-add-place-2 Inv-loop μ-loop
 add-place-2 c =
     omega (
       arith,
-      c .before .before .before .before .before .before .before .pre .0,
-      c .before .before .before .before .before .before .before .fits .formulas .fits,
-      c .before .before .before .before .before .before .before .fits .clauses .fits,
+      c .before .before .before .before .before .before .before .before .before .pre .0,
+      c .before .before .before .before .before .before .before .before .before .fits .formulas .fits,
+      c .before .before .before .before .before .before .before .before .before .fits .clauses .fits,
     )
 
 cast-place : tie.Need-cast-place Inv-loop μ-loop
 cast-place c =
     omega (
       arith,
-      c .before .before .before .before .before .before .before .pre .0,
-      c .before .before .before .before .before .before .before .fits .formulas .fits,
-      c .before .before .before .before .before .before .before .fits .clauses .fits,
+      c .before .before .before .before .before .before .before .before .before .pre .0,
+      c .before .before .before .before .before .before .before .before .before .fits .formulas .fits,
+      c .before .before .before .before .before .before .before .before .before .fits .clauses .fits,
     )
 
 add-place-3 : tie.Need-add-place-3 Inv-loop μ-loop
 add-place-3 c =
     omega (
       arith,
-      c .before .before .before .before .before .before .before .pre .0,
-      c .before .before .before .before .before .before .before .fits .formulas .fits,
-      c .before .before .before .before .before .before .before .fits .clauses .fits,
+      c .before .before .before .before .before .before .before .before .before .pre .0,
+      c .before .before .before .before .before .before .before .before .before .fits .formulas .fits,
+      c .before .before .before .before .before .before .before .before .before .fits .clauses .fits,
     )
 
 row-refused-requires : tie.Need-row-refused-requires Inv-loop μ-loop
 row-refused-requires c κs = search needs
 
 same-length : tie.Need-same-length Inv-loop μ-loop
-same-length c = c .before .before .before .before .before .loop .inv .3
+same-length c = c .before .before .before .before .before .before .before .loop .inv .3
 
 returns : tie.Need-returns Inv-loop μ-loop
-returns c = let b = c .before .before .before .before .before .loop .inv .0 in
-    let i = c .before .before .before .before .before .loop .i in
-    let s = c .before .before .before .before .before .loop .rest .now in
-    let t = c .before .before .before .before .before .before .before .before .args .text .now in
-    let w = many (stepItem (c .before .before .before .before .before .before .before .before .args .formulas)
-    (c .before .before .before .before .before .before .before .before .args .clauses))
-    (c .before .before .before .before .before .before .before .before .args .count) [] t in
-    let so = c .before .before .before .before .before .loop .inv .5 in
+returns c = let b = c .before .before .before .before .before .before .before .loop .inv .0 in
+    let i = c .before .before .before .before .before .before .before .loop .i in
+    let s = c .before .before .before .before .before .before .before .loop .rest .now in
+    let t = c .before .before .before .before .before .before .before .before .before .before .args .text .now in
+    let w = many (stepItem (c .before .before .before .before .before .before .before .before .before .before .args .formulas)
+    (c .before .before .before .before .before .before .before .before .before .before .args .clauses))
+    (c .before .before .before .before .before .before .before .before .before .before .args .count) [] t in
+    let place = 8 + c .before .before .before .before .before .before .before .before .before .before .args .formulas + c .before .before .before .before .before .before .before .before .before .before .args .clauses + i in
+    let so = c .before .before .before .before .before .before .before .loop .inv .5 in
     let k = c .before .enum-told .given .0 .0 in
-    let e = turn-stops (stepItem (c .before .before .before .before .before .before .before .before .args .formulas)
-    (c .before .before .before .before .before .before .before .before .args .clauses))
-    (c .before .before .before .before .before .before .before .before .args .count) i b s w so
-    (c .before .before .before .before .loop-test .taken) k
-    (8 + c .before .before .before .before .before .before .before .before .args .formulas + c .before .before .before .before .before .before .before .before .args .clauses + i)
-    (step-bad (c .before .before .before .before .before .before .before .before .args .formulas)
-    (c .before .before .before .before .before .before .before .before .args .clauses) b s i
-    (c .before .before .before .before .before .loop .inv .1) k
+    let e = turn-stops (stepItem (c .before .before .before .before .before .before .before .before .before .before .args .formulas)
+    (c .before .before .before .before .before .before .before .before .before .before .args .clauses))
+    (c .before .before .before .before .before .before .before .before .before .before .args .count) i b s w so
+    (c .before .before .before .before .before .before .loop-test .taken) k place
+    (step-bad (c .before .before .before .before .before .before .before .before .before .before .args .formulas)
+    (c .before .before .before .before .before .before .before .before .before .before .args .clauses) b s
+    (c .before .before .before .before .value-of .result .now) (c .before .before .before .before .value-of .ensures) i
+    (c .before .before .before .before .before .before .before .loop .inv .1) k
     (sym (c .before .before .before .step-line .ensures) ∙ c .before .enum-told .given .1)) in
-    let r : c .row-refused .result ≡ refusalIs k
-    (8 + c .before .before .before .before .before .before .before .before .args .formulas + c .before .before .before .before .before .before .before .before .args .clauses + i) = c .row-refused .ensures ∙
-    ap (λ l. refusalIs (rowRefused l)
-    (8 + c .before .before .before .before .before .before .before .before .args .formulas + c .before .before .before .before .before .before .before .before .args .clauses + i))
+    let r : c .row-refused .result ≡ refusalIs k place = c .row-refused .ensures ∙
+    ap (λ l. refusalIs (rowRefused l) place)
     (c .before .enum-told .given .1) in (
-      ap Section.Refused r ∙ section-refused (length t) w k
-          (8 + c .before .before .before .before .before .before .before .before .args .formulas + c .before .before .before .before .before .before .before .before .args .clauses + i) e,
-      λ xs rest f. never-both w k
-          (8 + c .before .before .before .before .before .before .before .before .args .formulas + c .before .before .before .before .before .before .before .before .args .clauses + i) xs rest e f,
+      ap Section.Refused r ∙ section-refused (length t) w k place e,
+      λ xs rest f. never-both w k place xs rest e f,
     )
 
 cast-at : tie.Need-cast-at Inv-loop μ-loop
-cast-at c = omega (arith, c .before .before .before .before .before .before .before .before .pre .0)
+cast-at c = omega (arith, c .before .before .before .before .before .before .before .before .before .before .pre .0)
 
 mul-at : tie.Need-mul-at Inv-loop μ-loop
-mul-at c = omega (arith, c .before .before .before .before .before .before .before .before .pre .0)
+mul-at c = omega (arith, c .before .before .before .before .before .before .before .before .before .before .pre .0)
 
 add-second : tie.Need-add-second Inv-loop μ-loop
-add-second c = omega (arith, c .before .before .before .before .before .before .before .before .pre .0)
+add-second c = omega (arith, c .before .before .before .before .before .before .before .before .before .before .pre .0)
 
 mul-steps : tie.Need-mul-steps Inv-loop μ-loop
 mul-steps c =
     omega (
       arith,
-      c .before .before .before .before .before .before .before .before .pre .0,
-      c .before .before .before .before .before .before .before .before .pre .1,
-      c .before .before .before .before .before .loop .inv .3,
+      c .before .before .before .before .before .before .before .before .before .before .pre .0,
+      c .before .before .before .before .before .before .before .before .before .before .pre .1,
+      c .before .before .before .before .before .before .before .loop .inv .3,
     )
 
 slice-write-steps : tie.Need-slice-write-steps Inv-loop μ-loop
 slice-write-steps c =
     omega (
       arith,
-      c .before .before .before .before .before .before .before .before .pre .0,
-      c .before .before .before .before .before .before .before .before .pre .1,
-      c .before .before .before .before .before .loop .inv .3,
+      c .before .before .before .before .before .before .before .before .before .before .pre .0,
+      c .before .before .before .before .before .before .before .before .before .before .pre .1,
+      c .before .before .before .before .before .before .before .loop .inv .3,
     )
 
 mul-steps-2 : tie.Need-mul-steps-2 Inv-loop μ-loop
 mul-steps-2 c =
     omega (
       arith,
-      c .before .before .before .before .before .before .before .before .pre .0,
-      c .before .before .before .before .before .before .before .before .pre .1,
-      c .before .before .before .before .before .loop .inv .3,
+      c .before .before .before .before .before .before .before .before .before .before .pre .0,
+      c .before .before .before .before .before .before .before .before .before .before .pre .1,
+      c .before .before .before .before .before .before .before .loop .inv .3,
     )
 
 slice-write-steps-2 : tie.Need-slice-write-steps-2 Inv-loop μ-loop
 slice-write-steps-2 c =
     simp length-set (omega (
       arith,
-      c .before .before .before .before .before .before .before .before .pre .0,
-      c .before .before .before .before .before .before .before .before .pre .1,
-      c .before .before .before .before .before .loop .inv .3,
+      c .before .before .before .before .before .before .before .before .before .before .pre .0,
+      c .before .before .before .before .before .before .before .before .before .before .pre .1,
+      c .before .before .before .before .before .before .before .loop .inv .3,
     ))
 
-rest-of-requires : tie.Need-rest-of-requires Inv-loop μ-loop
-rest-of-requires c κs = search needs
+-- The line is its key, its value and the LF, for no row has an empty value: the rest begins behind them.
+behind : (c : tie.After-known-told Inv-loop μ-loop) → Behind (c .before .before .before .before .before .before .before .loop .rest .now) (length (c .before .before .before .before .value-of .result .now) + 6)
+behind c =
+    row-behind "step=" stepKinds stepRefusal (c .before .before .before .before .before .before .before .loop .rest .now)
+    (c .before .before .before .before .value-of .result .now) (c .before .before .before .before .value-of .ensures) no-step
+    (c .before .got .given .0 .0) (c .before .got .given .0 .1 .0)
+    (c .before .got .given .0 .1 .1 .0) (sym (c .before .before .before .step-line .ensures) ∙ c .before .got .given .1)
+
+add-past : tie.Need-add-past Inv-loop μ-loop
+add-past c = omega (arith, behind c .inside, c .before .before .before .before .before .before .before .before .before .before .good .0 .0)
+
+sub-next : tie.Need-sub-next Inv-loop μ-loop
+sub-next c = omega (arith, behind c .inside)
+
+part-next-start : tie.Need-part-next-start Inv-loop μ-loop
+part-next-start c = omega (arith, behind c .inside)
+
+part-next-end : tie.Need-part-next-end Inv-loop μ-loop
+part-next-end c = search needs
 
 add-i : tie.Need-add-i Inv-loop μ-loop
-add-i c = omega (arith, c .before .before .before .before .before .before .before .before .before .pre .0)
+add-i c = omega (arith, c .before .before .before .before .before .before .before .before .before .before .before .pre .0)
 
 loop-less : tie.Need-loop-less Inv-loop μ-loop
 loop-less c = omega arith
 
 loop-again : tie.Need-loop-again Inv-loop μ-loop
-loop-again c = let b = c .before .before .before .before .before .before .loop .inv .0 in
-    let i = c .before .before .before .before .before .before .loop .i in
-    let s = c .before .before .before .before .before .before .loop .rest .now in
-    let t = c .before .before .before .before .before .before .before .before .before .args .text .now in
-    let w = many (stepItem (c .before .before .before .before .before .before .before .before .before .args .formulas)
-    (c .before .before .before .before .before .before .before .before .before .args .clauses))
-    (c .before .before .before .before .before .before .before .before .before .args .count) [] t in
-    let so = c .before .before .before .before .before .before .loop .inv .5 in
-    let x = row (c .before .before .got .given .0 .0) (c .before .before .got .given .0 .1 .0) (c .before .before .got .given .0 .1 .1 .0) in
-    let rest = c .rest-of .result .now in
-    let ok1 = step-ok (c .before .before .before .before .before .before .before .before .before .args .formulas)
-    (c .before .before .before .before .before .before .before .before .before .args .clauses) b s i
-    (c .before .before .before .before .before .before .loop .inv .1) rest (c .before .before .got .given .0 .0)
-    (c .before .before .got .given .0 .1 .0) (c .before .before .got .given .0 .1 .1 .0) (c .rest-of .ensures)
+loop-again c = let b = c .before .before .before .before .before .before .before .before .loop .inv .0 in
+    let i = c .before .before .before .before .before .before .before .before .loop .i in
+    let s = c .before .before .before .before .before .before .before .before .loop .rest .now in
+    let t = c .before .before .before .before .before .before .before .before .before .before .before .args .text .now in
+    let w = many (stepItem (c .before .before .before .before .before .before .before .before .before .before .before .args .formulas)
+    (c .before .before .before .before .before .before .before .before .before .before .before .args .clauses))
+    (c .before .before .before .before .before .before .before .before .before .before .before .args .count) [] t in
+    let so = c .before .before .before .before .before .before .before .before .loop .inv .5 in
+    let x = row (c .before .before .got .given .0 .0) (c .before .before .got .given .0 .1 .0)
+    (c .before .before .got .given .0 .1 .1 .0) in
+    let v = c .before .before .before .before .before .value-of .result .now in
+    let rest = take (length s - (length v + 6)) (drop (length v + 6) s) in
+    let next = behind (c .before) .rest in
+    let ok1 = step-ok (c .before .before .before .before .before .before .before .before .before .before .before .args .formulas)
+    (c .before .before .before .before .before .before .before .before .before .before .before .args .clauses) b s v
+    (c .before .before .before .before .before .value-of .ensures) i
+    (c .before .before .before .before .before .before .before .before .loop .inv .1) rest (c .before .before .got .given .0 .0)
+    (c .before .before .got .given .0 .1 .0) (c .before .before .got .given .0 .1 .1 .0) next
     (sym (c .before .before .before .before .step-line .ensures) ∙ c .before .before .got .given .1) in (
       b ++ (x ∷ []),
-      omega (arith, length-append b (x ∷ []), c .before .before .before .before .before .before .loop .inv .1),
+      omega (arith, length-append b (x ∷ []), c .before .before .before .before .before .before .before .before .loop .inv .1),
       omega arith,
-      simp length-set (c .before .before .before .before .before .before .loop .inv .3),
+      simp length-set (c .before .before .before .before .before .before .before .before .loop .inv .3),
       step-more
-          (length (c .before .before .before .before .before .before .before .before .before .args .steps .now))
-          (c .before .before .before .before .before .before .loop .steps) (2 * i) b (c .before .before .got .given .0 .0)
+          (length (c .before .before .before .before .before .before .before .before .before .before .before .args .steps .now))
+          (c .before .before .before .before .before .before .before .before .loop .steps) (2 * i) b (c .before .before .got .given .0 .0)
           (c .before .before .got .given .0 .1 .0) (c .before .before .got .given .0 .1 .1 .0)
-          (c .before .before .before .before .before .before .loop .inv .4)
-          (omega (arith, c .before .before .before .before .before .before .loop .inv .1))
+          (c .before .before .before .before .before .before .before .before .loop .inv .4)
+          (omega (arith, c .before .before .before .before .before .before .before .before .loop .inv .1))
           (omega (
             arith,
-            c .before .before .before .before .before .before .before .before .before .pre .0,
-            c .before .before .before .before .before .before .before .before .before .pre .1,
+            c .before .before .before .before .before .before .before .before .before .before .before .pre .0,
+            c .before .before .before .before .before .before .before .before .before .before .before .pre .1,
           )),
       turn-more
-          (stepItem (c .before .before .before .before .before .before .before .before .before .args .formulas)
-          (c .before .before .before .before .before .before .before .before .before .args .clauses))
-          (c .before .before .before .before .before .before .before .before .before .args .count) i b s w so
-          (c .before .before .before .before .before .loop-test .taken) x rest ok1,
+          (stepItem (c .before .before .before .before .before .before .before .before .before .before .before .args .formulas)
+          (c .before .before .before .before .before .before .before .before .before .before .before .args .clauses))
+          (c .before .before .before .before .before .before .before .before .before .before .before .args .count) i b s w so
+          (c .before .before .before .before .before .before .before .loop-test .taken) x rest ok1,
       omega
-          (arith, rest-short s rest (c .rest-of .ensures), c .before .before .before .before .before .before .loop .inv .6),
+          (arith, rest-short s rest next, c .before .before .before .before .before .before .before .before .loop .inv .6),
     )
 
 sub-taken : tie.Need-sub-taken Inv-loop μ-loop
@@ -244,6 +272,8 @@ read-steps-spec =
     Inv-loop
     μ-loop
     loop-holds
+    slice-aggregate-value-of
+    value-of-requires
     step-line-requires
     enum-known-got
     enum-told
@@ -261,7 +291,10 @@ read-steps-spec =
     slice-write-steps
     mul-steps-2
     slice-write-steps-2
-    rest-of-requires
+    add-past
+    sub-next
+    part-next-start
+    part-next-end
     add-i
     loop-less
     loop-again

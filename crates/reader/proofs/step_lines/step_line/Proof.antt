@@ -1,21 +1,13 @@
 -- `reader::step_lines::step_line` meets its contract: out of shape is 2, and a row in shape has its own refusal; one that passes is small.
 use mathlib.Core.Path.{sym, _∙_}
-use Rattle.scope.specs.Bytes.{bytes}
 use Rattle.scope.specs.Kinds.{stepKinds}
 use Rattle.scope.specs.Refusals.{stepRefusal}
-use Rattle.lines.specs.Parts.{valueOf}
 use Rattle.reader.specs.Lines.{row-lost, row-turned, row-taken}
 use Rattle.refusals.specs.Rows.{step-small}
 use borrow.Author.Needs.{needs}
 use native.Mathlib.Omega.{arith}
 use Rattle.reader.proofs.step_lines.step_line.Statement.{statement}
 use Rattle.reader.proofs.step_lines.step_line.Tie as tie
-
-slice-aggregate-value-of : tie.Need-slice-aggregate-value-of
-slice-aggregate-value-of c = search needs
-
-value-of-requires : tie.Need-value-of-requires
-value-of-requires c κs = search needs
 
 step-row-requires : tie.Need-step-row-requires
 step-row-requires c κs = search needs
@@ -28,9 +20,8 @@ enum-told c = search needs
 
 returns : tie.Need-returns
 returns c =
-    row-lost stepKinds stepRefusal (c .before .before .before .value-of .result .now)
-    (valueOf (bytes "step=") (c .before .before .before .before .before .before .args .text .now))
-    (c .before .before .before .value-of .ensures) (c .before .before .step-row .result) (c .before .before .step-row .ensures)
+    row-lost stepKinds stepRefusal (c .before .before .before .before .args .value .now) (c .before .before .step-row .result)
+    (c .before .before .step-row .ensures)
     (c .enum-told .given .1)
 
 step-refusal-requires : tie.Need-step-refusal-requires
@@ -38,9 +29,8 @@ step-refusal-requires c κs = search needs
 
 returns-2 : tie.Need-returns-2
 returns-2 c =
-    row-turned stepKinds stepRefusal (c .before .before .before .before .before .before .value-of .result .now)
-    (valueOf (bytes "step=") (c .before .before .before .before .before .before .before .before .before .args .text .now))
-    (c .before .before .before .before .before .before .value-of .ensures) (c .before .before .before .before .before .step-row .result)
+    row-turned stepKinds stepRefusal (c .before .before .before .before .before .before .before .args .value .now)
+    (c .before .before .before .before .before .step-row .result)
     (c .before .before .before .before .before .step-row .ensures)
     (c .before .before .before .got .given .0 .0) (c .before .before .before .got .given .0 .1 .0)
     (c .before .before .before .got .given .0 .1 .1 .0) (c .before .before .before .got .given .1)
@@ -66,9 +56,8 @@ cast-y c =
 
 returns-3 : tie.Need-returns-3
 returns-3 c =
-    row-taken stepKinds stepRefusal (c .before .before .before .before .before .before .value-of .result .now)
-    (valueOf (bytes "step=") (c .before .before .before .before .before .before .before .before .before .args .text .now))
-    (c .before .before .before .before .before .before .value-of .ensures) (c .before .before .before .before .before .step-row .result)
+    row-taken stepKinds stepRefusal (c .before .before .before .before .before .before .before .args .value .now)
+    (c .before .before .before .before .before .step-row .result)
     (c .before .before .before .before .before .step-row .ensures)
     (c .before .before .before .got .given .0 .0) (c .before .before .before .got .given .0 .1 .0)
     (c .before .before .before .got .given .0 .1 .1 .0) (c .before .before .before .got .given .1)
@@ -78,8 +67,6 @@ pub step-line-spec : {M : Type 1} → statement M
 step-line-spec =
     tie.close
     (tie.spec
-    slice-aggregate-value-of
-    value-of-requires
     step-row-requires
     enum-known-got
     enum-told
