@@ -203,7 +203,7 @@ module _ (test : ℕ → Bool) (classes : List ℕ) (n : ℕ) (o : Option ℕ) w
           low true e = never cc
           low false e = sym e
 
-  pub class-after : (f : ℕ) → numberLineOf (judged (belowRefusal n) o) ≡ NumberLine.Number f → judged (classRefusal test classes n) o
+  class-after : (f : ℕ) → numberLineOf (judged (belowRefusal n) o) ≡ NumberLine.Number f → judged (classRefusal test classes n) o
       ≡ settled (demand (test (getD classes f 0)) 5 0) f
   unfolding numberLineOf judged settled belowRefusal classRefusal demand
   class-after = go o
@@ -217,6 +217,17 @@ module _ (test : ℕ → Bool) (classes : List ℕ) (n : ℕ) (o : Option ℕ) w
               (demand b 3 (demand (test (getD classes m 0)) 5 0)) m ≡ settled (demand (test (getD classes f 0)) 5 0) f
           low true e = let p : m ≡ f = cc in ap (λ x. settled (demand (test (getD classes x 0)) 5 0) x) p
           low false e = never cc
+
+  -- The class of a formula that is asked for, and another.
+  pub class-met : (f : ℕ) → numberLineOf (judged (belowRefusal n) o) ≡ NumberLine.Number f → test (getD classes f 0) ≡ true →
+      NumberLine.Number f ≡ numberLineOf (judged (classRefusal test classes n) o)
+  unfolding settled demand
+  class-met f e t = number-val (judged (classRefusal test classes n) o) f (class-after f e ∙ rw t refl)
+
+  pub class-unmet : (f : ℕ) → numberLineOf (judged (belowRefusal n) o) ≡ NumberLine.Number f → test (getD classes f 0) ≡ false →
+      NumberLine.Refused 5 ≡ numberLineOf (judged (classRefusal test classes n) o)
+  unfolding settled demand
+  class-unmet f e t = number-out (judged (classRefusal test classes n) o) 5 (class-after f e ∙ rw t refl)
 
 -- What the answer about a value says of its row.
 pub row-none : (o : Option Row) → rowAnswer o ≡ RowValue.Bad → o ≡ none

@@ -1,13 +1,8 @@
 -- `reader::policy_lines::clause_line` meets its contract: the class is asked of a number that is a formula's.
-use mathlib.Core.Path.{_≡_, refl, ap, sym, _∙_}
-use mathlib.Core.Bool.{true, false}
-use lib.ListN.{getD}
+use mathlib.Core.Path.{ap, sym, _∙_}
 use Rattle.scope.specs.Number.{number}
-use Rattle.scope.specs.Line.{judged, settled}
-use Rattle.scope.specs.Refusals.{demand}
 use Rattle.classes.specs.Class.{policyIn}
-use Rattle.reader.specs.Sections.{classRefusal}
-use Rattle.reader.specs.Lines.{number-out, number-val, class-before, class-after}
+use Rattle.reader.specs.Lines.{class-before, class-met, class-unmet}
 use borrow.Author.Needs.{needs}
 use Rattle.reader.proofs.policy_lines.clause_line.Statement.{statement}
 use Rattle.reader.proofs.policy_lines.clause_line.Tie as tie
@@ -35,32 +30,18 @@ is-policy-requires : tie.Need-is-policy-requires
 is-policy-requires c κs = search needs
 
 returns-2 : tie.Need-returns-2
-unfolding settled demand
-returns-2 c = let f = c .before .before .before .before .got .given .0 .0 in
-    let e = class-after policyIn (c .before .before .before .before .before .before .before .before .before .args .classes .now)
-    (c .before .before .before .before .before .before .before .before .before .args .formulas)
-    (number (c .before .before .before .before .before .before .before .before .before .args .value .now)) f
-    (sym (c .before .before .before .before .before .before .formula-line .ensures) ∙ c .before .before .before .before .got .given .1) in
-    let t : policyIn (getD (c .before .before .before .before .before .before .before .before .before .args .classes .now) f 0)
-    ≡ true = ap policyIn (sym (c .before .before .class-in .ensures)) ∙ sym (c .before .is-policy .ensures) ∙ c .if1 .taken in
-    number-val (judged (classRefusal policyIn
-    (c .before .before .before .before .before .before .before .before .before .args .classes .now)
-    (c .before .before .before .before .before .before .before .before .before .args .formulas))
-    (number (c .before .before .before .before .before .before .before .before .before .args .value .now))) f (e ∙ rw t refl)
+returns-2 c =
+    let a = c .before .before .before .before .before .before .before .before .before .args in
+    class-met policyIn (a .classes .now) (a .formulas) (number (a .value .now)) (c .before .before .before .before .got .given .0 .0)
+    (sym (c .before .before .before .before .before .before .formula-line .ensures) ∙ c .before .before .before .before .got .given .1)
+    (ap policyIn (sym (c .before .before .class-in .ensures)) ∙ sym (c .before .is-policy .ensures) ∙ c .if1 .taken)
 
 returns-3 : tie.Need-returns-3
-unfolding settled demand
-returns-3 c = let f = c .before .before .before .before .got .given .0 .0 in
-    let e = class-after policyIn (c .before .before .before .before .before .before .before .before .before .args .classes .now)
-    (c .before .before .before .before .before .before .before .before .before .args .formulas)
-    (number (c .before .before .before .before .before .before .before .before .before .args .value .now)) f
-    (sym (c .before .before .before .before .before .before .formula-line .ensures) ∙ c .before .before .before .before .got .given .1) in
-    let t : policyIn (getD (c .before .before .before .before .before .before .before .before .before .args .classes .now) f 0)
-    ≡ false = ap policyIn (sym (c .before .before .class-in .ensures)) ∙ sym (c .before .is-policy .ensures) ∙ c .if1 .left in
-    number-out (judged (classRefusal policyIn
-    (c .before .before .before .before .before .before .before .before .before .args .classes .now)
-    (c .before .before .before .before .before .before .before .before .before .args .formulas))
-    (number (c .before .before .before .before .before .before .before .before .before .args .value .now))) 5 (e ∙ rw t refl)
+returns-3 c =
+    let a = c .before .before .before .before .before .before .before .before .before .args in
+    class-unmet policyIn (a .classes .now) (a .formulas) (number (a .value .now)) (c .before .before .before .before .got .given .0 .0)
+    (sym (c .before .before .before .before .before .before .formula-line .ensures) ∙ c .before .before .before .before .got .given .1)
+    (ap policyIn (sym (c .before .before .class-in .ensures)) ∙ sym (c .before .is-policy .ensures) ∙ c .if1 .left)
 
 pub clause-line-spec : {M : Type 1} → statement M
 clause-line-spec =

@@ -1,16 +1,13 @@
 -- `reader::policy_lines::goal_line` meets its contract: the class is asked of a number that is a formula's.
-use mathlib.Core.Path.{_≡_, refl, ap, sym, _∙_}
-use mathlib.Core.Bool.{true, false}
-use lib.ListN.{getD}
+use mathlib.Core.Path.{_≡_, ap, sym, _∙_}
 use Rattle.scope.specs.Bytes.{bytes}
 use Rattle.scope.specs.Number.{number}
-use Rattle.scope.specs.Line.{judged, settled}
-use Rattle.scope.specs.Refusals.{demand}
+use Rattle.scope.specs.Line.{judged}
 use Rattle.lines.specs.Parts.{valueOf}
 use Rattle.classes.specs.Class.{goalIn}
-use Rattle.reader.specs.Sections.{belowRefusal, classRefusal}
+use Rattle.reader.specs.Sections.{belowRefusal}
 use Rattle.reader.specs.Answers.{numberLineOf}
-use Rattle.reader.specs.Lines.{number-out, number-val, class-before, class-after}
+use Rattle.reader.specs.Lines.{class-before, class-met, class-unmet}
 use borrow.Author.Needs.{needs}
 use Rattle.reader.proofs.policy_lines.goal_line.Statement.{statement}
 use Rattle.reader.proofs.policy_lines.goal_line.Tie as tie
@@ -52,40 +49,20 @@ is-goal-requires : tie.Need-is-goal-requires
 is-goal-requires c κs = search needs
 
 returns-2 : tie.Need-returns-2
-unfolding settled demand
-returns-2 c = let f = c .before .before .before .before .got .given .0 .0 in
-    let e = class-after goalIn
-    (c .before .before .before .before .before .before .before .before .before .before .before .args .classes .now)
-    (c .before .before .before .before .before .before .before .before .before .before .before .args .formulas)
-    (number (valueOf (bytes "goal=")
-    (c .before .before .before .before .before .before .before .before .before .before .before .args .text .now))) f
-    (sym (found (c .before .before .before .before .before .before)) ∙ c .before .before .before .before .got .given .1) in
-    let t : goalIn
-    (getD (c .before .before .before .before .before .before .before .before .before .before .before .args .classes .now) f 0)
-    ≡ true = ap goalIn (sym (c .before .before .class-in .ensures)) ∙ sym (c .before .is-goal .ensures) ∙ c .if1 .taken in
-    number-val (judged (classRefusal goalIn
-    (c .before .before .before .before .before .before .before .before .before .before .before .args .classes .now)
-    (c .before .before .before .before .before .before .before .before .before .before .before .args .formulas))
-    (number (valueOf (bytes "goal=")
-    (c .before .before .before .before .before .before .before .before .before .before .before .args .text .now)))) f (e ∙ rw t refl)
+returns-2 c =
+    let a = c .before .before .before .before .before .before .before .before .before .before .before .args in
+    class-met goalIn (a .classes .now) (a .formulas) (number (valueOf (bytes "goal=") (a .text .now)))
+    (c .before .before .before .before .got .given .0 .0)
+    (sym (found (c .before .before .before .before .before .before)) ∙ c .before .before .before .before .got .given .1)
+    (ap goalIn (sym (c .before .before .class-in .ensures)) ∙ sym (c .before .is-goal .ensures) ∙ c .if1 .taken)
 
 returns-3 : tie.Need-returns-3
-unfolding settled demand
-returns-3 c = let f = c .before .before .before .before .got .given .0 .0 in
-    let e = class-after goalIn
-    (c .before .before .before .before .before .before .before .before .before .before .before .args .classes .now)
-    (c .before .before .before .before .before .before .before .before .before .before .before .args .formulas)
-    (number (valueOf (bytes "goal=")
-    (c .before .before .before .before .before .before .before .before .before .before .before .args .text .now))) f
-    (sym (found (c .before .before .before .before .before .before)) ∙ c .before .before .before .before .got .given .1) in
-    let t : goalIn
-    (getD (c .before .before .before .before .before .before .before .before .before .before .before .args .classes .now) f 0)
-    ≡ false = ap goalIn (sym (c .before .before .class-in .ensures)) ∙ sym (c .before .is-goal .ensures) ∙ c .if1 .left in
-    number-out (judged (classRefusal goalIn
-    (c .before .before .before .before .before .before .before .before .before .before .before .args .classes .now)
-    (c .before .before .before .before .before .before .before .before .before .before .before .args .formulas))
-    (number (valueOf (bytes "goal=")
-    (c .before .before .before .before .before .before .before .before .before .before .before .args .text .now)))) 5 (e ∙ rw t refl)
+returns-3 c =
+    let a = c .before .before .before .before .before .before .before .before .before .before .before .args in
+    class-unmet goalIn (a .classes .now) (a .formulas) (number (valueOf (bytes "goal=") (a .text .now)))
+    (c .before .before .before .before .got .given .0 .0)
+    (sym (found (c .before .before .before .before .before .before)) ∙ c .before .before .before .before .got .given .1)
+    (ap goalIn (sym (c .before .before .class-in .ensures)) ∙ sym (c .before .is-goal .ensures) ∙ c .if1 .left)
 
 pub goal-line-spec : {M : Type 1} → statement M
 goal-line-spec =
