@@ -28,6 +28,10 @@ int main(int argc, char **argv)
     }
     /* One byte more than is allowed, so that a longer file is refused for what it is. */
     size_t length = fread(file, 1, sizeof file, from);
+    if (ferror(from)) {
+        perror("reading");
+        return 2;
+    }
 
     struct peraduksi_printed printed = peraduksi_gate(file, length);
     printf("answer=%u\nplace=%u\nsteps=%u\n", (unsigned)printed.answer, (unsigned)printed.place, (unsigned)printed.steps);

@@ -6,7 +6,14 @@ use std::fs::File;
 use std::io::{self, Read};
 use std::process::ExitCode;
 
-fn main() -> io::Result<ExitCode> {
+fn main() -> ExitCode {
+    judged().unwrap_or_else(|error| {
+        eprintln!("reading: {error}");
+        ExitCode::from(2)
+    })
+}
+
+fn judged() -> io::Result<ExitCode> {
     let from: Box<dyn Read> = match args().nth(1) {
         Some(name) => Box::new(File::open(name)?),
         None => Box::new(io::stdin()),
