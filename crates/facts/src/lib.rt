@@ -6,6 +6,8 @@ ghost use Rattle.scope.specs.Facts.{le, by, sf};
 ghost use Rattle.facts.specs.Bits.{when};
 ghost use Rattle.facts.specs.Rows.{rowAt, bitOf, oneBit, byRow, sfRow, told};
 ghost use Rattle.facts.specs.Rows.{sfRows, putSf, speaksIn, rootRows, newWorld, grownLe, grownBy, noted};
+use steps::Principal;
+use steps::World;
 
 pub type Row = u32;
 
@@ -25,11 +27,6 @@ const BY: u16 = 2;
 const SF: u16 = 18;
 
 pub const ROWS: usize = WORLDS * EACH;
-
-// The number of a world, and the number of a principal.
-pub struct World(pub u16);
-
-pub struct Principal(pub u16);
 
 // The place of one of the rows that lead to a world.
 fn place_of(v: World, part: u16) -> usize

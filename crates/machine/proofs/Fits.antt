@@ -6,16 +6,16 @@ use mathlib.Core.Bool.{Bool, true, false}
 use mathlib.Core.List.{List}
 use lib.Dec.{leb}
 use borrow.Author.Tests.{leb-false}
-use Rattle.facts.specs.declared.World.{World}
-use Rattle.facts.specs.declared.Principal.{Principal}
+use Rattle.steps.specs.declared.World.{World}
+use Rattle.steps.specs.declared.Principal.{Principal}
 use Rattle.moves.specs.declared.Row.{Row}
 use Rattle.moves.specs.declared.Lab.{Lab}
 use Rattle.moves.specs.declared.Found.{Found}
 use Rattle.moves.specs.declared.Found.the-variants as found
 use Rattle.moves.specs.declared.Phase.{Phase}
 use Rattle.moves.specs.declared.Phase.the-variants as phase
-use Rattle.moves.specs.declared.Step.{Step}
-use Rattle.moves.specs.declared.Step.the-variants as step
+use Rattle.steps.specs.declared.Step.{Step}
+use Rattle.steps.specs.declared.Step.the-variants as step
 use Rattle.moves.specs.declared.Move.{Move}
 use Rattle.moves.specs.declared.Move.the-variants as move
 use Rattle.moves.specs.declared.Judged.{Judged}

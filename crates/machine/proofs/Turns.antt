@@ -1,5 +1,4 @@
 -- The walk taken turn by turn, as laws over its definitions: what a turn does to the state, and what the walk answers at its end.
-use Prim.{Unit}
 use Prim.Native.Nat.{ℕ, zero, suc, _+_, _-_, _*_, _<_, _≤_}
 use mathlib.Core.Path.{_≡_, refl, sym, _∙_, ap}
 use mathlib.Core.List.{List, [], _∷_}
@@ -8,8 +7,8 @@ use lib.ListN.{getD, set, length, replicate}
 use lib.Dec.{eqb}
 use borrow.Author.Tests.{eq-eqb, ne-eqb}
 use Rattle.facts.specs.Rows.{noted, rootRows}
-use Rattle.moves.specs.declared.Step.{Step}
-use Rattle.moves.specs.declared.Step.the-variants as step
+use Rattle.steps.specs.declared.Step.{Step}
+use Rattle.steps.specs.Steps.{stepFrom}
 use Rattle.moves.specs.declared.Move.{Move}
 use Rattle.moves.specs.declared.Move.the-variants as move
 use Rattle.moves.specs.declared.Judged.{Judged}
@@ -127,34 +126,9 @@ none-put lines n clauses e = rw e refl
 
 -- The step of a pair.
 pub step-pair : (kind number : ℕ) (steps : List ℕ) (i : ℕ) → kind ≡ getD steps (i * 2) 0 → number ≡ getD steps (i * 2 + 1) 0 →
-    stepIn (kind ∷ number ∷ []) 0 ≡ stepIn steps i
+    stepFrom kind number ≡ stepIn steps i
 unfolding stepIn
-step-pair kind number steps i ek en =
-    ap (λ (x : ℕ). stepIn (x ∷ number ∷ []) 0) ek ∙ ap (λ (x : ℕ). stepIn (getD steps (i * 2) 0 ∷ x ∷ []) 0) en
-
--- A kind past the table's is the last one.
-last-kind : (n number : ℕ) → stepIn (suc (suc (suc (suc (suc (suc (suc (suc (suc (suc (suc (suc (suc (suc (suc (suc (suc n)))))))))))))))) ∷ number ∷ []) 0 ≡ step.Note
-unfolding stepIn
-last-kind zero number = refl
-last-kind (suc n) number = refl
-
-pub kind-note : (k number : ℕ) → 17 ≤ k → stepIn (k ∷ number ∷ []) 0 ≡ step.Note
-kind-note k number h =
-    let n : ℕ = k - 17 in
-    let e : k ≡ suc (suc (suc (suc (suc (suc (suc (suc (suc (suc (suc (suc (suc (suc (suc (suc (suc n)))))))))))))))) = omega arith in
-    ap (λ (x : ℕ). stepIn (x ∷ number ∷ []) 0) e ∙ last-kind n number
-
--- A number that is none of the first n.
-abbrev pub Beyond : ℕ → ℕ → Type 0
-Beyond zero x = Unit
-Beyond (suc n) x = Beyond n x × (x ≡ n → ⊥)
-
-pub beyond : (n x : ℕ) → Beyond n x → n ≤ x
-beyond zero x h = omega arith
-beyond (suc n) x h =
-    let below : n ≤ x = beyond n x (h .0) in
-    let other : x ≡ n → ⊥ = h .1 in
-    omega arith
+step-pair kind number steps i ek en = ap (λ (x : ℕ). stepFrom x number) ek ∙ ap (stepFrom (getD steps (i * 2) 0)) en
 
 -- A move written into the state, given what each call of a turn answers.
 read-any : (l : List Obligation) (i : ℕ) (a b : Obligation) → i < length l → getD l i a ≡ getD l i b

@@ -1,7 +1,7 @@
 -- What a move makes of the current obligation, as numbers.
 use Prim.Native.Nat.{ℕ, _+_, _-_}
 use lib.Dec.{leb}
-use Rattle.facts.specs.declared.World.{World}
+use Rattle.steps.specs.declared.World.{World}
 use Rattle.moves.specs.declared.Lab.{Lab}
 use Rattle.moves.specs.declared.Phase.{Phase}
 use Rattle.moves.specs.declared.Phase.the-variants as phase

@@ -6,8 +6,8 @@ use lib.Dec.{eqb}
 use Rattle.facts.specs.Rows.{rootRows, noted}
 use Rattle.moves.specs.declared.Phase.the-variants as phase
 use Rattle.moves.specs.declared.Move.{Move}
-use Rattle.moves.specs.declared.Step.{Step}
-use Rattle.moves.specs.declared.Step.the-variants as step
+use Rattle.steps.specs.declared.Step.{Step}
+use Rattle.steps.specs.Steps.{stepFrom}
 use Rattle.moves.specs.declared.Judged.{Judged}
 use Rattle.moves.specs.declared.Judged.the-variants.{Fits, No}
 use Rattle.moves.specs.Steps.{pick}
@@ -34,29 +34,8 @@ pub record State : Type 0 where
 
 -- The i-th pair of the step table as a step.
 unfoldable pub stepIn : List ℕ → ℕ → Step
-stepIn steps i =
-    getD
-    (step.And ∷
-    step.Or1 ∷
-    step.Or2 ∷
-    step.Imp ∷
-    step.Says ∷
-    step.Top ∷
-    step.Sf ∷
-    step.Use (record { 0 = getD steps (i * 2 + 1) 0 }) ∷
-    step.Left ∷
-    step.Right ∷
-    step.To (record { 0 = getD steps (i * 2 + 1) 0 }) ∷
-    step.Hit ∷
-    step.Push ∷
-    step.Split ∷
-    step.Case ∷
-    step.Absurd ∷
-    step.Drop ∷
-    step.Note ∷
-    [])
-    (getD steps (i * 2) 0)
-    step.Note
+unfolding stepFrom
+stepIn steps i = stepFrom (getD steps (i * 2) 0) (getD steps (i * 2 + 1) 0)
 
 -- What stands past the end of the open obligations.
 abbrev pub nothing : Obligation

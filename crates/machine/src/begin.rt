@@ -4,14 +4,14 @@ ghost use Rattle.facts.specs.Rows.{rootRows};
 ghost use Rattle.machine.specs.Machine.{lineNoted, linesNoted, linesPut, first};
 use crate::Obligation;
 use crate::changes;
-use facts::Principal;
 use facts::ROWS;
 use facts::Row;
-use facts::World;
 use moves::Lab;
 use moves::Phase;
 use moves::judging;
 use moves::judging::CLAUSES;
+use steps::Principal;
+use steps::World;
 
 // An `sf` line is noted at world 0.
 fn note_line(rows: &mut [Row; ROWS], forms: &[u16], f: u16)

@@ -7,10 +7,10 @@ ghost use Rattle.machine.specs.Change.{lab, chunkCount, goalIn, behind, 
 ghost use Rattle.machine.specs.Room.{room};
 use crate::Change;
 use crate::Obligation;
-use facts::World;
 use moves::Lab;
 use moves::Move;
 use moves::Phase;
+use steps::World;
 
 // k less, and not below 0.
 pub(crate) fn less_by(n: u16, k: u16) -> u16

@@ -10,12 +10,12 @@ use crate::CHUNKS;
 use crate::Obligation;
 use crate::changes;
 use facts::PRINCIPALS;
-use facts::Principal;
 use facts::ROWS;
 use facts::Row;
-use facts::World;
 use moves::Move;
 use moves::judging;
+use steps::Principal;
+use steps::World;
 
 // The open obligations, and one place more, which is never read; and 16 entries for each.
 pub(crate) const OPENED: usize = 257;

@@ -16,37 +16,11 @@ use crate::tables::ENTRIES;
 use crate::tables::OPENED;
 use facts::ROWS;
 use facts::Row;
-use facts::World;
-use moves::Clause;
 use moves::Judged;
-use moves::Step;
 use moves::judging;
 use moves::judging::CLAUSES;
-
-fn step_of(kind: u16, number: u16) -> Step
-    ensures { λ r. ⌜ r ≡ stepIn (kind ∷ number ∷ []) 0 ⌝ }
-{
-    match kind {
-        0 => Step::And,
-        1 => Step::Or1,
-        2 => Step::Or2,
-        3 => Step::Imp,
-        4 => Step::Says,
-        5 => Step::Top,
-        6 => Step::Sf,
-        7 => Step::Use(Clause(number)),
-        8 => Step::Left,
-        9 => Step::Right,
-        10 => Step::To(World(number)),
-        11 => Step::Hit,
-        12 => Step::Push,
-        13 => Step::Split,
-        14 => Step::Case,
-        15 => Step::Absurd,
-        16 => Step::Drop,
-        _ => Step::Note,
-    }
-}
+use steps::Step;
+use steps::World;
 
 fn step_at(steps: &[u16], i: u16) -> Step
     ensures { λ r. ⌜ r ≡ stepIn (now (steps .entry)) i ⌝ }
@@ -54,7 +28,7 @@ fn step_at(steps: &[u16], i: u16) -> Step
     let at = i as usize * 2;
     let kind = judging::entry(steps, at);
     let number = judging::entry(steps, at + 1);
-    step_of(kind, number)
+    steps::step_of(kind, number)
 }
 
 fn refused_at(number: u16, i: u16) -> Walked

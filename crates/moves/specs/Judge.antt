@@ -3,15 +3,15 @@ use Prim.Native.Nat.{ℕ, _+_, _*_}
 use mathlib.Core.List.{List}
 use lib.ListN.{getD}
 use lib.Dec.{eqb, leb}
-use Rattle.moves.specs.declared.Clause.{Clause}
+use Rattle.steps.specs.declared.Clause.{Clause}
 use Rattle.moves.specs.declared.Row.{Row}
 use Rattle.moves.specs.declared.Lab.{Lab}
 use Rattle.moves.specs.declared.Found.{Found}
 use Rattle.moves.specs.declared.Found.the-variants as found
 use Rattle.moves.specs.declared.Phase.{Phase}
 use Rattle.moves.specs.declared.Phase.the-variants as phase
-use Rattle.moves.specs.declared.Step.{Step}
-use Rattle.moves.specs.declared.Step.the-variants as step
+use Rattle.steps.specs.declared.Step.{Step}
+use Rattle.steps.specs.declared.Step.the-variants as step
 use Rattle.moves.specs.declared.Judged.{Judged}
 use Rattle.moves.specs.declared.Judged.the-variants.{No}
 use Rattle.moves.specs.Steps.{pick, andStep, or1Step, or2Step, impStep, saysStep, topStep, sfStep, useStep}

@@ -7,8 +7,8 @@ use lib.Dec.{eqb, leb}
 use Rattle.scope.specs.Facts as Fact
 use Rattle.scope.specs.Limits.{mostWorlds, mostClauses, mostOpen, mostChunks}
 use Rattle.facts.specs.Rows.{told}
-use Rattle.facts.specs.declared.World.{World}
-use Rattle.facts.specs.declared.Principal.{Principal}
+use Rattle.steps.specs.declared.World.{World}
+use Rattle.steps.specs.declared.Principal.{Principal}
 use Rattle.moves.specs.declared.Row.{Row}
 use Rattle.moves.specs.declared.Lab.{Lab}
 use Rattle.moves.specs.declared.Found.{Found}

@@ -7,7 +7,7 @@ use crate::MOST_CLAUSES;
 use crate::MOST_OPEN;
 use crate::Move;
 use crate::Row;
-use facts::Principal;
+use steps::Principal;
 
 // An atom, `imp` or `says`.
 fn pushed_kind(kind: u16) -> bool

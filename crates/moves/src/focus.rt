@@ -7,9 +7,9 @@ use crate::MOST_OPEN;
 use crate::Move;
 use crate::Phase;
 use crate::Row;
-use facts::Principal;
 use facts::ROWS;
-use facts::World;
+use steps::Principal;
+use steps::World;
 
 pub(crate) fn left_step(r: Row, u: World, target: Lab) -> Judged
     ensures { λ j. ⌜ j ≡ leftStep r u target ⌝ }

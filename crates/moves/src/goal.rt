@@ -9,9 +9,9 @@ use crate::MOST_WORLDS;
 use crate::Move;
 use crate::Phase;
 use crate::Row;
-use facts::Principal;
 use facts::ROWS;
-use facts::World;
+use steps::Principal;
+use steps::World;
 
 pub(crate) fn and_step(r: Row, u: World, opened: u16) -> Judged
     ensures { λ j. ⌜ j ≡ andStep r u opened ⌝ }

@@ -2,18 +2,18 @@
 ghost use mathlib.Core.Path.{_≡_};
 ghost use lib.ListN.{getD};
 ghost use Rattle.moves.specs.Judge.{rowAt, findClause, useClause, goalStep, focusStep, chunkStep, judgeStep};
-use crate::Clause;
 use crate::Found;
 use crate::Judged;
 use crate::Lab;
 use crate::Phase;
 use crate::Row;
-use crate::Step;
 use crate::chunk;
 use crate::focus;
 use crate::goal;
 use facts::ROWS;
-use facts::World;
+use steps::Clause;
+use steps::Step;
+use steps::World;
 
 // The clauses of a sequent by their numbers, policy lines first; one place more, which is never read.
 pub const CLAUSES: usize = 257;

@@ -1,6 +1,6 @@
 // The eighteen steps, each judged on small values: the phase of the current obligation, the row of its formula, the facts, the counts.
-use facts::Principal;
-use facts::World;
+use steps::Principal;
+use steps::World;
 
 mod chunk;
 mod focus;
@@ -15,31 +15,6 @@ const MOST_CLAUSES: u16 = 256;
 const MOST_OPEN: u16 = 256;
 
 const MOST_CHUNKS: u16 = 16;
-
-// The number of a clause: never that of a world.
-pub struct Clause(pub u16);
-
-// A step is one of eighteen kinds, two of which carry a number.
-pub enum Step {
-    And,
-    Or1,
-    Or2,
-    Imp,
-    Says,
-    Top,
-    Sf,
-    Use(Clause),
-    Left,
-    Right,
-    To(World),
-    Hit,
-    Push,
-    Split,
-    Case,
-    Absurd,
-    Drop,
-    Note,
-}
 
 // A row of the formula table.
 pub struct Row {

@@ -10,6 +10,7 @@ use Rattle.scope.specs.Answer.{Answer, answer}
 use Rattle.scope.specs.Calls.{outcomeAnswer, noRequest, requestIn}
 use Rattle.counts.specs.declared.Counts.{Counts}
 use Rattle.counts.specs.declared.Refusal.{Refusal}
+use Rattle.steps.specs.Steps.{stepFrom}
 use Rattle.reader.specs.Sections.{Counted, Formulas, PolicyRead}
 use Rattle.reader.specs.declared.Reading.{Reading}
 use Rattle.reader.specs.declared.Reading.the-variants as Reading
@@ -17,6 +18,8 @@ use Rattle.reader.specs.declared.NumberLine.{NumberLine}
 use Rattle.reader.specs.declared.NumberLine.the-variants as NumberLine
 use Rattle.reader.specs.declared.RowLine.{RowLine}
 use Rattle.reader.specs.declared.RowLine.the-variants as RowLine
+use Rattle.reader.specs.declared.StepLine.{StepLine}
+use Rattle.reader.specs.declared.StepLine.the-variants as StepLine
 use Rattle.reader.specs.declared.Section.{Section}
 use Rattle.reader.specs.declared.Section.the-variants as Section
 use Rattle.reader.specs.declared.Head.{Head}
@@ -73,6 +76,10 @@ unfoldable pub rowLineOf : Value Row → RowLine
 rowLineOf (val r) = RowLine.Row (r .kind) (r .left) (r .right)
 rowLineOf (out k) = RowLine.Refused k
 
+unfoldable pub stepLineOf : Value Row → StepLine
+stepLineOf (val r) = StepLine.Step (stepFrom (r .kind) (r .left))
+stepLineOf (out k) = StepLine.Refused k
+
 -- Of several, in a text of n bytes.
 unfoldable pub sectionOf : {A : Type 0} → ℕ → Read A → Section
 sectionOf n (ok a rest) = Section.Read (n - length rest)
@@ -102,6 +109,10 @@ numberRefusal (NumberLine.Refused k) = k
 abbrev pub rowRefused : RowLine → ℕ
 rowRefused (RowLine.Row k l r) = 0
 rowRefused (RowLine.Refused k) = k
+
+abbrev pub stepRefused : StepLine → ℕ
+stepRefused (StepLine.Step x) = 0
+stepRefused (StepLine.Refused k) = k
 
 abbrev pub sectionRefused : Section → Refusal
 sectionRefused (Section.Read at) = refusalIs 0 0

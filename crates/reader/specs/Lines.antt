@@ -17,7 +17,7 @@ use Rattle.scope.specs.Number.{number}
 use Rattle.scope.specs.Line.{Value, val, out, Line, ok, bad, settled, judged, placed, line}
 use Rattle.scope.specs.Kinds.{Kind, items, ontoFirst, numbers, kindFrom, same, kindRow, itemsRow, rowIn, formKinds, stepKinds}
 use Rattle.scope.specs.Text.{numberLine, rowLine}
-use Rattle.scope.specs.Refusals.{demand, countRefusal}
+use Rattle.scope.specs.Refusals.{demand, countRefusal, stepRefusal}
 use Rattle.lines.specs.Parts.{valueOf, restOf, line-parts}
 use Rattle.lines.specs.Values.{Behind, rest-behind}
 use Rattle.lines.specs.Stop.{numberStop}
@@ -27,11 +27,14 @@ use Rattle.lines.specs.declared.Number.{Number}
 use Rattle.lines.specs.declared.Number.the-variants as NumberValue
 use Rattle.lines.specs.declared.Row.{Row as RowAnswer}
 use Rattle.lines.specs.declared.Row.the-variants as RowValue
-use Rattle.refusals.specs.Rows.{row}
+use Rattle.steps.specs.declared.Step.{Step}
+use Rattle.steps.specs.Steps.{pair, stepFrom, pairOf, pair-back}
+use Rattle.refusals.specs.Rows.{row, step-small}
 use Rattle.reader.specs.Sections.{belowRefusal, classRefusal}
-use Rattle.reader.specs.Answers.{numberLineOf, rowLineOf}
+use Rattle.reader.specs.Answers.{numberLineOf, rowLineOf, stepLineOf}
 use Rattle.reader.specs.declared.NumberLine.the-variants as NumberLine
 use Rattle.reader.specs.declared.RowLine.the-variants as RowLine
+use Rattle.reader.specs.declared.StepLine.the-variants as StepLine
 
 -- Out of shape, refused, and let through.
 module _ {A : Type 0} (refusal : A → ℕ) (o : Option A) where
@@ -63,6 +66,14 @@ pub row-val : (v : Value Row) (k l r : ℕ) → v ≡ val (row k l r) → RowLin
 unfolding rowLineOf
 row-val v k l r e = rw e refl
 
+pub step-out : (v : Value Row) (k : ℕ) → v ≡ out k → StepLine.Refused k ≡ stepLineOf v
+unfolding stepLineOf
+step-out v k e = rw e refl
+
+pub step-val : (v : Value Row) (k l r : ℕ) → v ≡ val (row k l r) → StepLine.Step (stepFrom k l) ≡ stepLineOf v
+unfolding stepLineOf
+step-val v k l r e = rw e refl
+
 -- And back: what an answer says of the line.
 pub out-number : (v : Value ℕ) (k : ℕ) → numberLineOf v ≡ NumberLine.Refused k → v ≡ out k
 unfolding numberLineOf
@@ -87,6 +98,35 @@ val-row (val m) k l r e =
     let c : m .right ≡ r = cc in
     ap val (λ i. record { kind = a i; left = b i; right = c i })
 val-row (out j) k l r e = never cc
+
+pub out-step : (v : Value Row) (k : ℕ) → stepLineOf v ≡ StepLine.Refused k → v ≡ out k
+unfolding stepLineOf
+out-step (val n) k e = never cc
+out-step (out j) k e = cc
+
+-- The row behind a step that a line gave, and the two numbers that the step stands for in a table.
+pub record Step-row (o : Option Row) (x : Step) : Type 0 where
+  pub kind : ℕ
+  pub number : ℕ
+  pub is : judged stepRefusal o ≡ val (row kind number 0)
+  pub stored : pairOf x ≡ pair kind number
+
+pub step-row : (o : Option Row) (x : Step) → stepLineOf (judged stepRefusal o) ≡ StepLine.Step x → Step-row o x
+unfolding stepLineOf judged settled
+step-row none x e = never cc
+step-row (some r) x e = go (stepRefusal r) refl e
+  where
+    go : (j : ℕ) → stepRefusal r ≡ j → stepLineOf (settled j r) ≡ StepLine.Step x → Step-row (some r) x
+    go zero z e =
+        let small = step-small (r .left) (r .right) (r .kind) z in
+        let f : stepFrom (r .kind) (r .left) ≡ x = cc in
+        record {
+          kind = r .kind;
+          number = r .left;
+          is = judged-val stepRefusal (some r) r refl z ∙ ap (λ k. val (row (r .kind) (r .left) k)) (small .rights);
+          stored = ap pairOf (sym f) ∙ pair-back (r .kind) (r .left) (small .kinds) (small .unused);
+        }
+    go (suc j) z e = never cc
 
 -- No empty value is in shape.
 no-number : number [] ≡ none
@@ -143,16 +183,15 @@ pub number-bad : (key : String) (refusal : ℕ → ℕ) (i : ℕ) (s : List ℕ)
 number-bad key refusal i s k e = value-bad key refusal s (valueOf (bytes key) s) refl i k e
 
 module _ (key : String) (kinds : List Kind) (refusal : Row → ℕ) (s v : List ℕ) (part : v ≡ valueOf (bytes key) s) (empty : rowIn kinds [] ≡ none) where
-  pub row-ok : (i : ℕ) (rest : List ℕ) (k l r : ℕ) → rest ≡ restOf s → rowLineOf (judged refusal (rowIn kinds v)) ≡ RowLine.Row k l r
+  pub row-ok : (i : ℕ) (rest : List ℕ) (k l r : ℕ) → rest ≡ restOf s → judged refusal (rowIn kinds v) ≡ val (row k l r)
       → line (rowLine key kinds) refusal i s ≡ ok (row k l r) rest
-  row-ok i rest k l r is e =
-      line-ok (rowLine key kinds) refusal s v part empty i (row k l r) rest is (val-row (judged refusal (rowIn kinds v)) k l r e)
+  row-ok i rest k l r is e = line-ok (rowLine key kinds) refusal s v part empty i (row k l r) rest is e
 
-  pub row-bad : (i k : ℕ) → rowLineOf (judged refusal (rowIn kinds v)) ≡ RowLine.Refused k → line (rowLine key kinds) refusal i s ≡ bad k i
-  row-bad i k e = line-bad (rowLine key kinds) refusal s v part empty i k (out-row (judged refusal (rowIn kinds v)) k e)
+  pub row-bad : (i k : ℕ) → judged refusal (rowIn kinds v) ≡ out k → line (rowLine key kinds) refusal i s ≡ bad k i
+  row-bad i k e = line-bad (rowLine key kinds) refusal s v part empty i k e
 
-  pub row-behind : (k l r : ℕ) → rowLineOf (judged refusal (rowIn kinds v)) ≡ RowLine.Row k l r → Behind s (length v + (length (bytes key) + 1))
-  row-behind k l r e = line-behind (rowLine key kinds) refusal s v part empty (row k l r) (val-row (judged refusal (rowIn kinds v)) k l r e)
+  pub row-behind : (k l r : ℕ) → judged refusal (rowIn kinds v) ≡ val (row k l r) → Behind s (length v + (length (bytes key) + 1))
+  row-behind k l r e = line-behind (rowLine key kinds) refusal s v part empty (row k l r) e
 
 -- The refusals of a count and of a formula number.
 pub count-low : (least most n : ℕ) → n < least → countRefusal least most n ≡ 3
@@ -244,15 +283,10 @@ row-some (some m) k l r e =
     let c : m .right ≡ r = cc in
     ap some (λ i. record { kind = a i; left = b i; right = c i })
 
--- A refusal that is not 0, and one that is.
-pub refused-row : (refusal : Row → ℕ) (o : Option Row) (a : Row) (k : ℕ) → o ≡ some a → k ≡ refusal a → (k ≡ 0 → ⊥) → RowLine.Refused k
-    ≡ rowLineOf (judged refusal o)
+-- A refusal that is not 0.
+refused-row : (refusal : Row → ℕ) (o : Option Row) (a : Row) (k : ℕ) → o ≡ some a → k ≡ refusal a → (k ≡ 0 → ⊥) → judged refusal o ≡ out k
 refused-row refusal o a zero e r n = absurd (n refl)
-refused-row refusal o a (suc k) e r n = row-out (judged refusal o) (suc k) (judged-out refusal o a k e (sym r))
-
-pub passed-row : (refusal : Row → ℕ) (o : Option Row) (k l r : ℕ) → o ≡ some (row k l r) → refusal (row k l r) ≡ 0 → RowLine.Row k l r
-    ≡ rowLineOf (judged refusal o)
-passed-row refusal o k l r e z = row-val (judged refusal o) k l r (judged-val refusal o (row k l r) e z)
+refused-row refusal o a (suc k) e r n = judged-out refusal o a k e (sym r)
 
 -- A number line and a row line from the value that was found and the answer about it.
 module _ (refusal : ℕ → ℕ) (value whole : List ℕ) (part : value ≡ whole) (r : Number)
@@ -273,16 +307,15 @@ module _ (refusal : ℕ → ℕ) (value whole : List ℕ) (part : value ≡ whol
     number-taken z = number-val (judged refusal (number whole)) n (judged-val refusal (number whole) n written z)
 
 module _ (kinds : List Kind) (refusal : Row → ℕ) (value : List ℕ) (v : RowAnswer) (about : v ≡ rowAnswer (rowIn kinds value)) where
-  pub row-lost : v ≡ RowValue.Bad → RowLine.Refused 2 ≡ rowLineOf (judged refusal (rowIn kinds value))
-  row-lost e =
-      row-out (judged refusal (rowIn kinds value)) 2 (judged-none refusal (rowIn kinds value) (row-none (rowIn kinds value) (sym about ∙ e)))
+  pub row-lost : v ≡ RowValue.Bad → judged refusal (rowIn kinds value) ≡ out 2
+  row-lost e = judged-none refusal (rowIn kinds value) (row-none (rowIn kinds value) (sym about ∙ e))
 
   module _ (k l r : ℕ) (e : v ≡ RowValue.Items k l r) where
     inShape : rowIn kinds value ≡ some (row k l r)
     inShape = row-some (rowIn kinds value) k l r (sym about ∙ e)
 
-    pub row-turned : (j : ℕ) → j ≡ refusal (row k l r) → (j ≡ 0 → ⊥) → RowLine.Refused j ≡ rowLineOf (judged refusal (rowIn kinds value))
+    pub row-turned : (j : ℕ) → j ≡ refusal (row k l r) → (j ≡ 0 → ⊥) → judged refusal (rowIn kinds value) ≡ out j
     row-turned j z n = refused-row refusal (rowIn kinds value) (row k l r) j inShape z n
 
-    pub row-taken : refusal (row k l r) ≡ 0 → RowLine.Row k l r ≡ rowLineOf (judged refusal (rowIn kinds value))
-    row-taken z = passed-row refusal (rowIn kinds value) k l r inShape z
+    pub row-taken : refusal (row k l r) ≡ 0 → judged refusal (rowIn kinds value) ≡ val (row k l r)
+    row-taken z = judged-val refusal (rowIn kinds value) (row k l r) inShape z

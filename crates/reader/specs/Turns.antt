@@ -9,7 +9,7 @@ use Rattle.scope.specs.Tests.{never}
 use Rattle.scope.specs.Bytes.{bytes}
 use Rattle.scope.specs.Number.{number}
 use Rattle.scope.specs.Request.{Row}
-use Rattle.scope.specs.Line.{Read, ok, bad, Reader, judged, line, after, _>>=_, many}
+use Rattle.scope.specs.Line.{Value, val, out, Read, ok, bad, Reader, judged, line, after, _>>=_, many}
 use Rattle.scope.specs.Kinds.{formKinds, stepKinds, rowIn}
 use Rattle.scope.specs.Limits.{versionAt, principalsAt, atomsAt, formulasAt, clauseAt, stepAt}
 use Rattle.scope.specs.Refusals.{rowRefusal, formRefusal, stepRefusal, versionRefusal, principalsRefusal, atomsRefusal, formulasRefusal}
@@ -19,12 +19,10 @@ use Rattle.classes.specs.Class.{policyIn}
 use Rattle.lines.specs.Parts.{valueOf, restOf}
 use Rattle.refusals.specs.Rows.{row}
 use Rattle.reader.specs.Sections.{Counted, headPart, classRefusal, classedItem}
-use Rattle.reader.specs.Answers.{refusalIs, numberLineOf, rowLineOf, sectionOf, headOf}
+use Rattle.reader.specs.Answers.{refusalIs, numberLineOf, sectionOf, headOf}
 use Rattle.reader.specs.Lines.{no-form, no-step, row-ok, row-bad, value-ok, value-bad}
 use Rattle.reader.specs.Many.{onto, many-more, many-stop, many-end, many-start, tail-length, rest-tail}
 use Rattle.reader.specs.declared.NumberLine.the-variants as NumberLine
-use Rattle.reader.specs.declared.RowLine.{RowLine}
-use Rattle.reader.specs.declared.RowLine.the-variants as RowLine
 use Rattle.reader.specs.declared.Section.the-variants as Section
 use Rattle.reader.specs.declared.Head.the-variants as Head
 
@@ -70,24 +68,24 @@ same-things r a b s t e f = cc
 
 -- A `form=` line behind those before it, by its value v.
 module _ (principals atoms : ℕ) (before : List Row) (s v : List ℕ) (part : v ≡ valueOf (bytes "form=") s) (i : ℕ) (is : length before ≡ i) where
-  at-length : (a : RowLine) → rowLineOf (judged (rowRefusal formKinds principals atoms i) (rowIn formKinds v)) ≡ a
-      → rowLineOf (judged (rowRefusal formKinds principals atoms (length before)) (rowIn formKinds v)) ≡ a
-  at-length a h = subst (λ j. rowLineOf (judged (rowRefusal formKinds principals atoms j) (rowIn formKinds v)) ≡ a) (sym is) h
+  at-length : (a : Value Row) → judged (rowRefusal formKinds principals atoms i) (rowIn formKinds v) ≡ a
+      → judged (rowRefusal formKinds principals atoms (length before)) (rowIn formKinds v) ≡ a
+  at-length a h = subst (λ j. judged (rowRefusal formKinds principals atoms j) (rowIn formKinds v) ≡ a) (sym is) h
 
   pub form-ok : (rest : List ℕ) (k l r : ℕ) → rest ≡ restOf s
-      → rowLineOf (judged (rowRefusal formKinds principals atoms i) (rowIn formKinds v)) ≡ RowLine.Row k l r
+      → judged (rowRefusal formKinds principals atoms i) (rowIn formKinds v) ≡ val (row k l r)
       → formItem principals atoms before s ≡ ok (row k l r) rest
   unfolding formRefusal
   form-ok rest k l r e h =
       row-ok "form=" formKinds (formRefusal principals atoms before) s v part no-form (5 + length before) rest k l r e
-      (at-length (RowLine.Row k l r) h)
+      (at-length (val (row k l r)) h)
 
-  pub form-bad : (k : ℕ) → rowLineOf (judged (rowRefusal formKinds principals atoms i) (rowIn formKinds v)) ≡ RowLine.Refused k
+  pub form-bad : (k : ℕ) → judged (rowRefusal formKinds principals atoms i) (rowIn formKinds v) ≡ out k
       → formItem principals atoms before s ≡ bad k (5 + i)
   unfolding formRefusal
   form-bad k h =
       row-bad "form=" formKinds (formRefusal principals atoms before) s v part no-form (5 + length before) k
-      (at-length (RowLine.Refused k) h) ∙ ap (λ j. bad k (5 + j)) is
+      (at-length (out k) h) ∙ ap (λ j. bad k (5 + j)) is
 
 module _ (classes : List ℕ) (formulas : ℕ) (before s v : List ℕ) (part : v ≡ valueOf (bytes "clause=") s) (i : ℕ) (is : length before ≡ i) where
   pub clause-ok : (rest : List ℕ) (f : ℕ) → rest ≡ restOf s
@@ -102,11 +100,11 @@ module _ (classes : List ℕ) (formulas : ℕ) (before s v : List ℕ) (part : v
       ap (λ j. bad k (clauseAt formulas j)) is
 
 module _ (formulas clauses : ℕ) (before : List Row) (s v : List ℕ) (part : v ≡ valueOf (bytes "step=") s) (i : ℕ) (is : length before ≡ i) where
-  pub step-ok : (rest : List ℕ) (k l r : ℕ) → rest ≡ restOf s → rowLineOf (judged stepRefusal (rowIn stepKinds v)) ≡ RowLine.Row k l r
+  pub step-ok : (rest : List ℕ) (k l r : ℕ) → rest ≡ restOf s → judged stepRefusal (rowIn stepKinds v) ≡ val (row k l r)
       → stepItem formulas clauses before s ≡ ok (row k l r) rest
   step-ok rest k l r e h = row-ok "step=" stepKinds stepRefusal s v part no-step (stepAt formulas clauses (suc (length before))) rest k l r e h
 
-  pub step-bad : (k : ℕ) → rowLineOf (judged stepRefusal (rowIn stepKinds v)) ≡ RowLine.Refused k
+  pub step-bad : (k : ℕ) → judged stepRefusal (rowIn stepKinds v) ≡ out k
       → stepItem formulas clauses before s ≡ bad k (8 + formulas + clauses + i)
   step-bad k h =
       row-bad "step=" stepKinds stepRefusal s v part no-step (stepAt formulas clauses (suc (length before))) k h ∙

@@ -6,9 +6,10 @@ ghost use Rattle.scope.specs.Request.{Request};
 ghost use Rattle.scope.specs.Reader.{Outcome, read, readRequest};
 ghost use Rattle.scope.specs.Tables.{table, formEntry, lineEntry, stepEntry, hasRoom};
 ghost use Rattle.scope.specs.Calls.{reading, formTableAfter, lineTableAfter, stepTableAfter};
-ghost use Rattle.reader.specs.Answers.{refusalIs, numberRefusal, rowRefused, sectionRefused, headRefused, policyRefused, stepsRefused, readingOf};
+ghost use Rattle.reader.specs.Answers.{refusalIs, numberRefusal, rowRefused, stepRefused, sectionRefused, headRefused, policyRefused, stepsRefused, readingOf};
 use counts::Counts;
 use counts::Refusal;
+use steps::Step;
 
 mod first_lines;
 mod form_lines;
@@ -29,6 +30,12 @@ enum NumberLine {
 // The kind and the operands that a line has, or its refusal.
 enum RowLine {
     Row(u16, u16, u16),
+    Refused(u16),
+}
+
+// The step that a line has, or its refusal.
+enum StepLine {
+    Step(Step),
     Refused(u16),
 }
 
@@ -72,6 +79,15 @@ fn row_refused(line: RowLine, place: u32) -> Refusal
     match line {
         RowLine::Row(_, _, _) => Refusal { number: 0, place },
         RowLine::Refused(number) => Refusal { number, place },
+    }
+}
+
+fn step_refused(line: StepLine, place: u32) -> Refusal
+    ensures { λ r. ⌜ r ≡ refusalIs (stepRefused line) place ⌝ }
+{
+    match line {
+        StepLine::Step(_) => Refusal { number: 0, place },
+        StepLine::Refused(number) => Refusal { number, place },
     }
 }
 

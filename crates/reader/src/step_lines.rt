@@ -1,7 +1,7 @@
 // The `step=` lines.
 use crate::NumberLine;
-use crate::RowLine;
 use crate::Section;
+use crate::StepLine;
 use crate::Steps;
 use lines::Row;
 ghost use mathlib.Core.Path.{_≡_};
@@ -14,25 +14,25 @@ ghost use Rattle.scope.specs.Refusals.{stepRefusal};
 ghost use Rattle.scope.specs.Request.{Row as StepRow};
 ghost use Rattle.scope.specs.Reader.{stepItem};
 ghost use Rattle.scope.specs.Tables.{table, stepEntry};
-ghost use Rattle.reader.specs.Answers.{rowLineOf, sectionOf, stepsOf};
+ghost use Rattle.reader.specs.Answers.{stepLineOf, sectionOf, stepsOf};
 ghost use Rattle.reader.specs.Sections.{stepsPart};
 
 // The value of a `step=` line.
-fn step_line(value: &[u8]) -> RowLine
-    ensures { λ r. ⌜ r ≡ rowLineOf (judged stepRefusal (rowIn stepKinds (now (value .entry)))) ⌝ }
+fn step_line(value: &[u8]) -> StepLine
+    ensures { λ r. ⌜ r ≡ stepLineOf (judged stepRefusal (rowIn stepKinds (now (value .entry)))) ⌝ }
 {
     let got = lines::step_row(value);
     let Row::Items(kind, left, right) = got else {
-        return RowLine::Refused(2);
+        return StepLine::Refused(2);
     };
     let refusal = refusals::step_refusal(kind, left, right);
     if refusal != 0 {
-        return RowLine::Refused(refusal);
+        return StepLine::Refused(refusal);
     }
     let k = kind as u16;
-    let x = left as u16;
-    let y = right as u16;
-    RowLine::Row(k, x, y)
+    let n = left as u16;
+    let step = steps::step_of(k, n);
+    StepLine::Step(step)
 }
 
 fn read_steps(text: &[u8], formulas: u16, clauses: u16, count: u16, steps: &mut [u16]) -> Section
@@ -45,14 +45,15 @@ fn read_steps(text: &[u8], formulas: u16, clauses: u16, count: u16, steps: &mut 
     while i < count {
         let value = lines::value_of(rest, b"step=");
         let got = step_line(value);
-        let RowLine::Row(kind, left, _) = got else {
+        let StepLine::Step(step) = got else {
             let place = 8 + formulas as u32 + clauses as u32 + i as u32;
-            return Section::Refused(crate::row_refused(got, place));
+            return Section::Refused(crate::step_refused(got, place));
         };
+        let pair = steps::pair_of(step);
         let at = 2 * (i as usize);
         let second = at + 1;
-        steps[at] = kind;
-        steps[second] = left;
+        steps[at] = pair.kind;
+        steps[second] = pair.number;
         let past = value.len() + 6;
         let next = &rest[past..];
         rest = next;

@@ -178,27 +178,28 @@ module _ (l r : ℕ) where
     pub kinds : k < 18
     pub lefts : l < 65536
     pub rights : r ≡ 0
+    pub unused : (k ≡ 7 → ⊥) → (k ≡ 10 → ⊥) → l ≡ 0
 
   pub step-small : (k : ℕ) → stepRefused k ≡ 0 → SmallStep k
   step-small k e = go (ltb k 18) (eqb k 7) (eqb k 10) refl refl refl
     where
-      carried : (j : ℕ) → j < 18 → demands (eqb r 0) (leb l 65535) true ≡ 0 → SmallStep j
-      carried j h f =
+      carried : (j : ℕ) → j < 18 → demands (eqb r 0) (leb l 65535) true ≡ 0 → ((j ≡ 7 → ⊥) → (j ≡ 10 → ⊥) → l ≡ 0) → SmallStep j
+      carried j h f none =
           let m = demands-met (eqb r 0) (leb l 65535) true f in
           let x = eqb-true r 0 (m .zeros) in
           let y = leb-true l 65535 (m .within) in
-          record { kinds = h; lefts = omega arith; rights = x }
+          record { kinds = h; lefts = omega arith; rights = x; unused = none }
 
       go : (a b c : Bool) → ltb k 18 ≡ a → eqb k 7 ≡ b → eqb k 10 ≡ c → SmallStep k
       go false b c p q t = absurd (omega (arith, step-over k (ltb-false k 18 p)))
       go true true c p q t =
           let f = eqb-true k 7 q in
-          carried k (ltb-true k 18 p) (sym step-7 ∙ ap stepRefused (sym f) ∙ e)
+          carried k (ltb-true k 18 p) (sym step-7 ∙ ap stepRefused (sym f) ∙ e) (λ n m. absurd (n f))
       go true false true p q t =
           let f = eqb-true k 10 t in
-          carried k (ltb-true k 18 p) (sym step-10 ∙ ap stepRefused (sym f) ∙ e)
+          carried k (ltb-true k 18 p) (sym step-10 ∙ ap stepRefused (sym f) ∙ e) (λ n m. absurd (m f))
       go true false false p q t =
           let m = demands-met (both (eqb l 0) (eqb r 0)) true true (sym (step-plain k (ltb-true k 18 p) (eqb-false k 7 q) (eqb-false k 10 t)) ∙ e) in
           let x = eqb-true l 0 (both-true (eqb l 0) (eqb r 0) (m .zeros) .0) in
           let y = eqb-true r 0 (both-true (eqb l 0) (eqb r 0) (m .zeros) .1) in
-          record { kinds = ltb-true k 18 p; lefts = omega arith; rights = y }
+          record { kinds = ltb-true k 18 p; lefts = omega arith; rights = y; unused = λ n m. x }

@@ -18,12 +18,13 @@ use Rattle.facts.specs.Kept.{Aimed}
 use Rattle.moves.specs.declared.Move.{Move}
 use Rattle.moves.specs.declared.Judged.{Judged}
 use Rattle.moves.specs.declared.Judged.the-variants.{Fits}
+use Rattle.steps.specs.Steps.{stepIs}
 use Rattle.machine.specs.Machine.{State, begun, stepIn, judgedNow, moved}
 use Rattle.walks.specs.Trees.{Reading}
 use Rattle.walks.specs.Passed.{Passed, unrefused-passed}
 use Rattle.walks.specs.Readable.{readingOf}
 use Rattle.walks.specs.Related.{Related, now-open}
-use Rattle.walks.specs.Match.{Match, no-fit, no-room, fits, stepIs, told-has}
+use Rattle.walks.specs.Match.{Match, no-fit, no-room, fits, told-has}
 use Rattle.walks.specs.Ran.{stepped}
 use Rattle.walks.specs.Simulation.{begins}
 

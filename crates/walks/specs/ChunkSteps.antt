@@ -18,8 +18,9 @@ use Rattle.moves.specs.declared.Judged.the-variants.{Fits, No}
 use Rattle.moves.specs.declared.Row as R
 use Rattle.moves.specs.declared.Phase.the-variants as phase
 use Rattle.moves.specs.declared.Move.the-variants as move
-use Rattle.moves.specs.declared.Step.{Step}
-use Rattle.moves.specs.declared.Step.the-variants as step
+use Rattle.steps.specs.declared.Step.{Step}
+use Rattle.steps.specs.declared.Step.the-variants as step
+use Rattle.steps.specs.Steps.{stepIs}
 use Rattle.moves.specs.Steps.{pick, principal, pushStep, splitStep, caseStep, absurdStep, dropStep, noteStep}
 use Rattle.moves.specs.Judge.{rowAt, onChunk, chunkStep}
 use Rattle.machine.specs.Change as numbers
@@ -31,7 +32,7 @@ use Rattle.walks.specs.Moved.{moved-close}
 use Rattle.walks.specs.Moves.{moved-drop, moved-note, moved-push, moved-split, moved-case}
 use Rattle.walks.specs.Rooms.{open-over, clauses-over, chunks-over, chunks-length}
 use Rattle.walks.specs.Fitting.{alone-within, pair-within, none-within, one-within, clauses-length, clauses-few}
-use Rattle.walks.specs.Match.{Match, no-fit, no-room, fits, stepIs, if-room, only-top, only-bot, only-and, only-or, only-sf}
+use Rattle.walks.specs.Match.{Match, no-fit, no-room, fits, if-room, only-top, only-bot, only-and, only-or, only-sf}
 use Rattle.walks.specs.Match.{only-pushed}
 
 -- The goal behind chunks has as many as there are, and has met no subgoal.

@@ -18,8 +18,9 @@ use Rattle.moves.specs.declared.Judged.the-variants.{Fits, No}
 use Rattle.moves.specs.declared.Row as R
 use Rattle.moves.specs.declared.Phase.the-variants as phase
 use Rattle.moves.specs.declared.Move.the-variants as move
-use Rattle.moves.specs.declared.Step.{Step}
-use Rattle.moves.specs.declared.Step.the-variants as step
+use Rattle.steps.specs.declared.Step.{Step}
+use Rattle.steps.specs.declared.Step.the-variants as step
+use Rattle.steps.specs.Steps.{stepIs}
 use Rattle.moves.specs.Steps.{pick, leftStep, rightStep, toStep, hitStep}
 use Rattle.moves.specs.Judge.{rowAt, onFocus, focusStep}
 use Rattle.machine.specs.Change as numbers
@@ -31,7 +32,7 @@ use Rattle.walks.specs.Moved.{moved-close}
 use Rattle.walks.specs.Moves.{moved-go, moved-meet}
 use Rattle.walks.specs.Rooms.{within-true, open-over, met-length, goals-small, goals-open}
 use Rattle.walks.specs.Fitting.{alone-within, clauses-few}
-use Rattle.walks.specs.Match.{Match, no-fit, no-room, fits, stepIs, told-has, if-room, if-need, if-below, only-atom, only-and}
+use Rattle.walks.specs.Match.{Match, no-fit, no-room, fits, told-has, if-room, if-need, if-below, only-atom, only-and}
 use Rattle.walks.specs.Match.{only-imp-says}
 
 module _ {T : Reading} {rows cl ats ch sv : List ℕ} {stack : Stack} {es : List Entry} {n m c f u t w q : ℕ} {fs : List Fact}

@@ -22,8 +22,9 @@ use Rattle.moves.specs.declared.Lab as L
 use Rattle.moves.specs.declared.Row as R
 use Rattle.moves.specs.declared.Phase.the-variants as phase
 use Rattle.moves.specs.declared.Move.the-variants as move
-use Rattle.moves.specs.declared.Step.{Step}
-use Rattle.moves.specs.declared.Step.the-variants as step
+use Rattle.steps.specs.declared.Step.{Step}
+use Rattle.steps.specs.declared.Step.the-variants as step
+use Rattle.steps.specs.Steps.{stepIs}
 use Rattle.moves.specs.declared.Found.the-variants as found
 use Rattle.moves.specs.Steps.{pick, principal, andStep, or1Step, or2Step, impStep, saysStep, topStep, sfStep, ifFound, useStep}
 use Rattle.moves.specs.Judge.{rowAt, findClause, useClause, onGoal, goalStep}
@@ -36,7 +37,7 @@ use Rattle.walks.specs.Moved.{moved-close}
 use Rattle.walks.specs.Moves.{moved-go, moved-both, moved-less, moved-speak}
 use Rattle.walks.specs.Rooms.{open-over, worlds-over}
 use Rattle.walks.specs.Fitting.{alone-within, pair-within, none-within, one-within, clauses-few, clause-at, clause-past}
-use Rattle.walks.specs.Match.{Match, no-fit, no-room, fits, stepIs, told-has, if-room, if-need, only-atom, only-top, only-and}
+use Rattle.walks.specs.Match.{Match, no-fit, no-room, fits, told-has, if-room, if-need, only-atom, only-top, only-and}
 use Rattle.walks.specs.Match.{only-or, only-imp, only-says, only-sf, sf-kind}
 
 module _ {T : Reading} {rows cl ats ch sv : List ℕ} {stack : Stack} {es : List Entry} {n m c f u : ℕ} {fs : List Fact}

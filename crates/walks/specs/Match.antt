@@ -12,7 +12,6 @@ use Rattle.scope.specs.Facts.{Fact}
 use Rattle.scope.specs.Held.{holds}
 use Rattle.scope.specs.Agree.{agree-sound, agree-full}
 use Rattle.scope.specs.Obligation.{Lab, Obligation}
-use Rattle.scope.specs.Obligation as O
 use Rattle.scope.specs.Room.{within}
 use Rattle.scope.specs.Walk.{Move, onto, refuse, need, has, onAtom, onTop, onBot, onAnd, onOr, onImp, onSays, onSf, onImpSays, onPushed}
 use Rattle.scope.specs.Tests.{never}
@@ -21,8 +20,6 @@ use Rattle.facts.specs.Kept.{Kept, Aimed}
 use Rattle.moves.specs.declared.Judged.{Judged}
 use Rattle.moves.specs.declared.Judged.the-variants.{Fits, No}
 use Rattle.moves.specs.declared.Move as M
-use Rattle.moves.specs.declared.Step.{Step}
-use Rattle.moves.specs.declared.Step.the-variants as step
 use Rattle.moves.specs.Steps.{pick, pushedKind}
 use Rattle.machine.specs.Machine.{State, moved}
 use Rattle.walks.specs.Trees.{Means, byMeans, Reading}
@@ -33,27 +30,6 @@ pub data Match (T : Reading) (s : State) (waiting : List Obligation) : Judged �
   no-room : {os : List Obligation} → within (length waiting) os ≡ false → Match T s waiting (No 10) (onto os)
   fits : {m : M.Move} {os : List Obligation} → within (length waiting) os ≡ true → Related T (moved s m) (os ++ waiting) →
       Match T s waiting (Fits m) (onto os)
-
--- The step that the code's enum means.
-unfoldable pub stepIs : Step → O.Step
-stepIs step.And = O.And
-stepIs step.Or1 = O.Or1
-stepIs step.Or2 = O.Or2
-stepIs step.Imp = O.Imp
-stepIs step.Says = O.Says
-stepIs step.Top = O.Top
-stepIs step.Sf = O.Sf
-stepIs (step.Use n) = O.Use (n .0)
-stepIs step.Left = O.Left
-stepIs step.Right = O.Right
-stepIs (step.To v) = O.To (v .0)
-stepIs step.Hit = O.Hit
-stepIs step.Push = O.Push
-stepIs step.Split = O.Split
-stepIs step.Case = O.Case
-stepIs step.Absurd = O.Absurd
-stepIs step.Drop = O.Drop
-stepIs step.Note = O.Note
 
 -- Two tests that are true alike.
 alike : (a b : Bool) → (a ≡ true → b ≡ true) → (b ≡ true → a ≡ true) → a ≡ b

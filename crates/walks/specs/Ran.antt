@@ -17,7 +17,8 @@ use Rattle.scope.specs.Walk.{Move, stepOn, after, walk}
 use Rattle.moves.specs.declared.Judged.{Judged}
 use Rattle.moves.specs.declared.Move as M
 use Rattle.moves.specs.declared.Phase as D
-use Rattle.moves.specs.declared.Step.{Step}
+use Rattle.steps.specs.declared.Step.{Step}
+use Rattle.steps.specs.Steps.{stepIs}
 use Rattle.moves.specs.Steps.{pick}
 use Rattle.moves.specs.Judge.{judgeStep}
 use Rattle.machine.specs.declared.Obligation as E
@@ -30,7 +31,7 @@ use Rattle.walks.specs.Related.{Entry, stateOf, headOf, downFrom, at-goa
 use Rattle.walks.specs.Related.{Related, all-closed, now-open}
 use Rattle.walks.specs.Views.{head-is}
 use Rattle.walks.specs.Chunks.{one-less, top-is}
-use Rattle.walks.specs.Match.{Match, no-fit, no-room, fits, stepIs}
+use Rattle.walks.specs.Match.{Match, no-fit, no-room, fits}
 use Rattle.walks.specs.GoalSteps.{goal-steps}
 use Rattle.walks.specs.FocusSteps.{focus-steps}
 use Rattle.walks.specs.ChunkSteps.{chunk-steps}

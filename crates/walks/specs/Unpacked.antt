@@ -9,10 +9,9 @@ use lib.Seq.{getD-take, getD-drop, drop-drop}
 use Rattle.scope.specs.Request.{Row}
 use Rattle.scope.specs.Obligation.{stepOf}
 use Rattle.scope.specs.Tables.{Entry, formEntry, lineEntry, stepEntry, unpack}
-use Rattle.moves.specs.declared.Step.the-variants as step
+use Rattle.steps.specs.Steps.{stepIs, step-means}
 use Rattle.moves.specs.Judge.{rowAt}
 use Rattle.machine.specs.Machine.{stepIn}
-use Rattle.walks.specs.Match.{stepIs}
 use Rattle.walks.specs.Ran.{stepsFrom}
 
 pub unpack-at : {A : Type 0} (e : Entry A) (n i : ℕ) (t : List ℕ) (d : A) → i < n →
@@ -53,17 +52,12 @@ line-at n i t h =
 
 -- A step by its two numbers.
 step-at : (t : List ℕ) (i : ℕ) → stepIs (stepIn t i) ≡ stepOf (stepEntry .get (take 2 (drop (i * 2) t)))
-unfolding stepIn stepOf stepIs
+unfolding stepIn
 step-at t i =
     let a : 0 < 2 = omega arith in
     let b : 1 < 2 = omega arith in
     rw (first-at 2 (i * 2) t a, number-at 2 1 (i * 2) t b)
-    (sym (List·getD-map stepIs
-    (step.And ∷ step.Or1 ∷ step.Or2 ∷ step.Imp ∷ step.Says ∷ step.Top ∷ step.Sf ∷
-    step.Use (record { 0 = getD t (i * 2 + 1) 0 }) ∷ step.Left ∷ step.Right ∷
-    step.To (record { 0 = getD t (i * 2 + 1) 0 }) ∷ step.Hit ∷ step.Push ∷ step.Split ∷ step.Case ∷ step.Absurd ∷
-    step.Drop ∷ step.Note ∷ [])
-    (getD t (i * 2) 0) step.Note))
+    (step-means record { kind = getD t (i * 2) 0; left = getD t (i * 2 + 1) 0; right = 0 })
 
 steps-after : (t : List ℕ) (n i : ℕ) → stepsFrom t n i ≡ map stepOf (unpack stepEntry n (drop (i * 2) t))
 unfolding stepsFrom unpack

@@ -2,7 +2,7 @@
 use mathlib.Core.Path.{sym, _∙_}
 use Rattle.scope.specs.Kinds.{formKinds}
 use Rattle.scope.specs.Refusals.{rowRefusal}
-use Rattle.reader.specs.Lines.{row-lost, row-turned, row-taken}
+use Rattle.reader.specs.Lines.{row-out, row-val, row-lost, row-turned, row-taken}
 use Rattle.refusals.specs.Rows.{form-small}
 use borrow.Author.Needs.{needs}
 use native.Mathlib.Omega.{arith}
@@ -20,17 +20,17 @@ enum-told c = search needs
 
 returns : tie.Need-returns
 returns c =
-    row-lost formKinds (rowRefusal formKinds (c .before .before .before .before .args .principals)
+    row-out _ 2 (row-lost formKinds (rowRefusal formKinds (c .before .before .before .before .args .principals)
     (c .before .before .before .before .args .atoms) (c .before .before .before .before .args .formula))
     (c .before .before .before .before .args .value .now) (c .before .before .form-row .result) (c .before .before .form-row .ensures)
-    (c .enum-told .given .1)
+    (c .enum-told .given .1))
 
 form-refusal-requires : tie.Need-form-refusal-requires
 form-refusal-requires c κs = search needs
 
 returns-2 : tie.Need-returns-2
 returns-2 c =
-    row-turned formKinds (rowRefusal formKinds (c .before .before .before .before .before .before .before .args .principals)
+    row-out _ (c .before .form-refusal .result) (row-turned formKinds (rowRefusal formKinds (c .before .before .before .before .before .before .before .args .principals)
     (c .before .before .before .before .before .before .before .args .atoms)
     (c .before .before .before .before .before .before .before .args .formula))
     (c .before .before .before .before .before .before .before .args .value .now)
@@ -38,7 +38,7 @@ returns-2 c =
     (c .before .before .before .before .before .form-row .ensures)
     (c .before .before .before .got .given .0 .0) (c .before .before .before .got .given .0 .1 .0)
     (c .before .before .before .got .given .0 .1 .1 .0) (c .before .before .before .got .given .1)
-    (c .before .form-refusal .result) (c .before .form-refusal .ensures) (c .if1 .taken)
+    (c .before .form-refusal .result) (c .before .form-refusal .ensures) (c .if1 .taken))
 
 cast-k : tie.Need-cast-k
 cast-k c =
@@ -78,7 +78,8 @@ cast-y c =
 
 returns-3 : tie.Need-returns-3
 returns-3 c =
-    row-taken formKinds (rowRefusal formKinds (c .before .before .before .before .before .before .before .args .principals)
+    row-val _ (c .before .before .before .got .given .0 .0) (c .before .before .before .got .given .0 .1 .0)
+    (c .before .before .before .got .given .0 .1 .1 .0) (row-taken formKinds (rowRefusal formKinds (c .before .before .before .before .before .before .before .args .principals)
     (c .before .before .before .before .before .before .before .args .atoms)
     (c .before .before .before .before .before .before .before .args .formula))
     (c .before .before .before .before .before .before .before .args .value .now)
@@ -86,7 +87,7 @@ returns-3 c =
     (c .before .before .before .before .before .form-row .ensures)
     (c .before .before .before .got .given .0 .0) (c .before .before .before .got .given .0 .1 .0)
     (c .before .before .before .got .given .0 .1 .1 .0) (c .before .before .before .got .given .1)
-    (sym (c .before .form-refusal .ensures) ∙ c .if1 .left)
+    (sym (c .before .form-refusal .ensures) ∙ c .if1 .left))
 
 pub form-line-spec : {M : Type 1} → statement M
 form-line-spec =

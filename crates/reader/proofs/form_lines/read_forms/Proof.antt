@@ -13,7 +13,7 @@ use Rattle.scope.specs.Tables.{table, formEntry}
 use Rattle.refusals.specs.Rows.{row}
 use Rattle.lines.specs.Values.{Behind}
 use Rattle.reader.specs.Answers.{refusalIs, rowRefused}
-use Rattle.reader.specs.Lines.{no-form, row-behind}
+use Rattle.reader.specs.Lines.{no-form, out-row, val-row, row-behind}
 use Rattle.reader.specs.Many.{onto}
 use Rattle.reader.specs.Stored.{table-none, form-more}
 use Rattle.reader.specs.Turns.{rest-short, turns-begin, turn-more, turn-stops, turns-end, section-refused, section-read, never-both, same-things, form-ok, form-bad}
@@ -90,7 +90,7 @@ returns c = let b = c .before .before .before .before .before .before .before .l
     (c .before .before .before .before .before .before .before .before .before .before .args .atoms) b s
     (c .before .before .before .before .value-of .result .now) (c .before .before .before .before .value-of .ensures) i
     (c .before .before .before .before .before .before .before .loop .inv .1) k
-    (sym (c .before .before .before .form-line .ensures) ∙ c .before .enum-told .given .1)) in
+    (out-row _ k (sym (c .before .before .before .form-line .ensures) ∙ c .before .enum-told .given .1))) in
     let r : c .row-refused .result ≡ refusalIs k (5 + i) = c .row-refused .ensures ∙ ap (λ l. refusalIs (rowRefused l) (5 + i))
     (c .before .enum-told .given .1) in
     (ap Section.Refused r ∙ section-refused (length t) w k (5 + i) e, λ xs rest f. never-both w k (5 + i) xs rest e f)
@@ -171,7 +171,9 @@ behind c =
     (c .before .before .before .before .before .before .before .loop .rest .now)
     (c .before .before .before .before .value-of .result .now) (c .before .before .before .before .value-of .ensures) no-form
     (c .before .got .given .0 .0) (c .before .got .given .0 .1 .0)
-    (c .before .got .given .0 .1 .1 .0) (sym (c .before .before .before .form-line .ensures) ∙ c .before .got .given .1)
+    (c .before .got .given .0 .1 .1 .0)
+    (val-row _ (c .before .got .given .0 .0) (c .before .got .given .0 .1 .0) (c .before .got .given .0 .1 .1 .0)
+    (sym (c .before .before .before .form-line .ensures) ∙ c .before .got .given .1))
 
 add-past : tie.Need-add-past Inv-loop μ-loop
 add-past c = omega (arith, behind c .inside, c .before .before .before .before .before .before .before .before .before .before .good .0 .0)
@@ -210,7 +212,8 @@ loop-again c = let b = c .before .before .before .before .before .before .before
     (c .before .before .before .before .before .value-of .ensures) i
     (c .before .before .before .before .before .before .before .before .loop .inv .1) rest (c .before .before .got .given .0 .0)
     (c .before .before .got .given .0 .1 .0) (c .before .before .got .given .0 .1 .1 .0) next
-    (sym (c .before .before .before .before .form-line .ensures) ∙ c .before .before .got .given .1) in (
+    (val-row _ (c .before .before .got .given .0 .0) (c .before .before .got .given .0 .1 .0) (c .before .before .got .given .0 .1 .1 .0)
+    (sym (c .before .before .before .before .form-line .ensures) ∙ c .before .before .got .given .1)) in (
       b ++ (x ∷ []),
       omega (arith, length-append b (x ∷ []), c .before .before .before .before .before .before .before .before .loop .inv .1),
       omega arith,

@@ -3,17 +3,18 @@
 use Prim.Native.Nat.{_+_, _-_, _*_, _≤_}
 use mathlib.Core.Path.{_≡_, refl, ap, sym, _∙_}
 use mathlib.Core.List.{List, [], _∷_, _++_}
-use lib.ListN.{length, take, drop, length-append, length-set}
+use lib.ListN.{length, take, drop, set, length-append, length-set}
 use Rattle.scope.specs.Line.{many}
-use Rattle.scope.specs.Kinds.{stepKinds}
+use Rattle.scope.specs.Kinds.{stepKinds, rowIn}
 use Rattle.scope.specs.Refusals.{stepRefusal}
 use Rattle.scope.specs.Request.{Row}
 use Rattle.scope.specs.Reader.{stepItem}
 use Rattle.scope.specs.Tables.{table, stepEntry}
+use Rattle.steps.specs.declared.Pair.{Pair}
 use Rattle.refusals.specs.Rows.{row}
 use Rattle.lines.specs.Values.{Behind}
-use Rattle.reader.specs.Answers.{refusalIs, rowRefused}
-use Rattle.reader.specs.Lines.{no-step, row-behind}
+use Rattle.reader.specs.Answers.{refusalIs, stepRefused}
+use Rattle.reader.specs.Lines.{out-step, Step-row, step-row, no-step, row-behind}
 use Rattle.reader.specs.Many.{onto}
 use Rattle.reader.specs.Stored.{table-none, step-more}
 use Rattle.reader.specs.Turns.{rest-short, turns-begin, turn-more, turn-stops, turns-end, section-refused, section-read, never-both, same-things, step-ok, step-bad}
@@ -96,8 +97,8 @@ add-place-3 c =
       c .before .before .before .before .before .before .before .before .before .fits .clauses .fits,
     )
 
-row-refused-requires : tie.Need-row-refused-requires Inv-loop μ-loop
-row-refused-requires c κs = search needs
+step-refused-requires : tie.Need-step-refused-requires Inv-loop μ-loop
+step-refused-requires c κs = search needs
 
 same-length : tie.Need-same-length Inv-loop μ-loop
 same-length c = c .before .before .before .before .before .before .before .loop .inv .3
@@ -121,127 +122,136 @@ returns c = let b = c .before .before .before .before .before .before .before .l
     (c .before .before .before .before .before .before .before .before .before .before .args .clauses) b s
     (c .before .before .before .before .value-of .result .now) (c .before .before .before .before .value-of .ensures) i
     (c .before .before .before .before .before .before .before .loop .inv .1) k
-    (sym (c .before .before .before .step-line .ensures) ∙ c .before .enum-told .given .1)) in
-    let r : c .row-refused .result ≡ refusalIs k place = c .row-refused .ensures ∙
-    ap (λ l. refusalIs (rowRefused l) place)
+    (out-step _ k (sym (c .before .before .before .step-line .ensures) ∙ c .before .enum-told .given .1))) in
+    let r : c .step-refused .result ≡ refusalIs k place = c .step-refused .ensures ∙
+    ap (λ l. refusalIs (stepRefused l) place)
     (c .before .enum-told .given .1) in (
       ap Section.Refused r ∙ section-refused (length t) w k place e,
       λ xs rest f. never-both w k place xs rest e f,
     )
 
+pair-of-requires : tie.Need-pair-of-requires Inv-loop μ-loop
+pair-of-requires c κs = search needs
+
 cast-at : tie.Need-cast-at Inv-loop μ-loop
-cast-at c = omega (arith, c .before .before .before .before .before .before .before .before .before .before .pre .0)
+cast-at c = omega (arith, c .before .before .before .before .before .before .before .before .before .before .before .pre .0)
 
 mul-at : tie.Need-mul-at Inv-loop μ-loop
-mul-at c = omega (arith, c .before .before .before .before .before .before .before .before .before .before .pre .0)
+mul-at c = omega (arith, c .before .before .before .before .before .before .before .before .before .before .before .pre .0)
 
 add-second : tie.Need-add-second Inv-loop μ-loop
-add-second c = omega (arith, c .before .before .before .before .before .before .before .before .before .before .pre .0)
+add-second c = omega (arith, c .before .before .before .before .before .before .before .before .before .before .before .pre .0)
 
 mul-steps : tie.Need-mul-steps Inv-loop μ-loop
 mul-steps c =
     omega (
       arith,
-      c .before .before .before .before .before .before .before .before .before .before .pre .0,
-      c .before .before .before .before .before .before .before .before .before .before .pre .1,
-      c .before .before .before .before .before .before .before .loop .inv .3,
+      c .before .before .before .before .before .before .before .before .before .before .before .pre .0,
+      c .before .before .before .before .before .before .before .before .before .before .before .pre .1,
+      c .before .before .before .before .before .before .before .before .loop .inv .3,
     )
 
 slice-write-steps : tie.Need-slice-write-steps Inv-loop μ-loop
 slice-write-steps c =
     omega (
       arith,
-      c .before .before .before .before .before .before .before .before .before .before .pre .0,
-      c .before .before .before .before .before .before .before .before .before .before .pre .1,
-      c .before .before .before .before .before .before .before .loop .inv .3,
+      c .before .before .before .before .before .before .before .before .before .before .before .pre .0,
+      c .before .before .before .before .before .before .before .before .before .before .before .pre .1,
+      c .before .before .before .before .before .before .before .before .loop .inv .3,
     )
 
 mul-steps-2 : tie.Need-mul-steps-2 Inv-loop μ-loop
 mul-steps-2 c =
     omega (
       arith,
-      c .before .before .before .before .before .before .before .before .before .before .pre .0,
-      c .before .before .before .before .before .before .before .before .before .before .pre .1,
-      c .before .before .before .before .before .before .before .loop .inv .3,
+      c .before .before .before .before .before .before .before .before .before .before .before .pre .0,
+      c .before .before .before .before .before .before .before .before .before .before .before .pre .1,
+      c .before .before .before .before .before .before .before .before .loop .inv .3,
     )
 
 slice-write-steps-2 : tie.Need-slice-write-steps-2 Inv-loop μ-loop
 slice-write-steps-2 c =
     simp length-set (omega (
       arith,
-      c .before .before .before .before .before .before .before .before .before .before .pre .0,
-      c .before .before .before .before .before .before .before .before .before .before .pre .1,
-      c .before .before .before .before .before .before .before .loop .inv .3,
+      c .before .before .before .before .before .before .before .before .before .before .before .pre .0,
+      c .before .before .before .before .before .before .before .before .before .before .before .pre .1,
+      c .before .before .before .before .before .before .before .before .loop .inv .3,
     ))
+
+-- The row of the line's step.
+found : (c : tie.After-known-told Inv-loop μ-loop) → Step-row
+    (rowIn stepKinds (c .before .before .before .before .value-of .result .now)) (c .before .got .given .0 .0)
+found c =
+    step-row (rowIn stepKinds (c .before .before .before .before .value-of .result .now)) (c .before .got .given .0 .0)
+    (sym (c .before .before .before .step-line .ensures) ∙ c .before .got .given .1)
 
 -- The line is its key, its value and the LF, for no row has an empty value: the rest begins behind them.
 behind : (c : tie.After-known-told Inv-loop μ-loop) → Behind (c .before .before .before .before .before .before .before .loop .rest .now) (length (c .before .before .before .before .value-of .result .now) + 6)
 behind c =
     row-behind "step=" stepKinds stepRefusal (c .before .before .before .before .before .before .before .loop .rest .now)
     (c .before .before .before .before .value-of .result .now) (c .before .before .before .before .value-of .ensures) no-step
-    (c .before .got .given .0 .0) (c .before .got .given .0 .1 .0)
-    (c .before .got .given .0 .1 .1 .0) (sym (c .before .before .before .step-line .ensures) ∙ c .before .got .given .1)
+    (found c .kind) (found c .number) 0 (found c .is)
 
 add-past : tie.Need-add-past Inv-loop μ-loop
-add-past c = omega (arith, behind c .inside, c .before .before .before .before .before .before .before .before .before .before .good .0 .0)
+add-past c = omega (arith, behind (c .before) .inside, c .before .before .before .before .before .before .before .before .before .before .before .good .0 .0)
 
 sub-next : tie.Need-sub-next Inv-loop μ-loop
-sub-next c = omega (arith, behind c .inside)
+sub-next c = omega (arith, behind (c .before) .inside)
 
 part-next-start : tie.Need-part-next-start Inv-loop μ-loop
-part-next-start c = omega (arith, behind c .inside)
+part-next-start c = omega (arith, behind (c .before) .inside)
 
 part-next-end : tie.Need-part-next-end Inv-loop μ-loop
 part-next-end c = search needs
 
 add-i : tie.Need-add-i Inv-loop μ-loop
-add-i c = omega (arith, c .before .before .before .before .before .before .before .before .before .before .before .pre .0)
+add-i c = omega (arith, c .before .before .before .before .before .before .before .before .before .before .before .before .pre .0)
 
 loop-less : tie.Need-loop-less Inv-loop μ-loop
 loop-less c = omega arith
 
 loop-again : tie.Need-loop-again Inv-loop μ-loop
-loop-again c = let b = c .before .before .before .before .before .before .before .before .loop .inv .0 in
-    let i = c .before .before .before .before .before .before .before .before .loop .i in
-    let s = c .before .before .before .before .before .before .before .before .loop .rest .now in
-    let t = c .before .before .before .before .before .before .before .before .before .before .before .args .text .now in
-    let w = many (stepItem (c .before .before .before .before .before .before .before .before .before .before .before .args .formulas)
-    (c .before .before .before .before .before .before .before .before .before .before .before .args .clauses))
-    (c .before .before .before .before .before .before .before .before .before .before .before .args .count) [] t in
-    let so = c .before .before .before .before .before .before .before .before .loop .inv .5 in
-    let x = row (c .before .before .got .given .0 .0) (c .before .before .got .given .0 .1 .0)
-    (c .before .before .got .given .0 .1 .1 .0) in
-    let v = c .before .before .before .before .before .value-of .result .now in
+loop-again c = let b = c .before .before .before .before .before .before .before .before .before .loop .inv .0 in
+    let i = c .before .before .before .before .before .before .before .before .before .loop .i in
+    let s = c .before .before .before .before .before .before .before .before .before .loop .rest .now in
+    let t = c .before .before .before .before .before .before .before .before .before .before .before .before .args .text .now in
+    let w = many (stepItem (c .before .before .before .before .before .before .before .before .before .before .before .before .args .formulas)
+    (c .before .before .before .before .before .before .before .before .before .before .before .before .args .clauses))
+    (c .before .before .before .before .before .before .before .before .before .before .before .before .args .count) [] t in
+    let so = c .before .before .before .before .before .before .before .before .before .loop .inv .5 in
+    let at = found (c .before .before) in
+    let x = row (at .kind) (at .number) 0 in
+    let v = c .before .before .before .before .before .before .value-of .result .now in
     let rest = take (length s - (length v + 6)) (drop (length v + 6) s) in
-    let next = behind (c .before) .rest in
-    let ok1 = step-ok (c .before .before .before .before .before .before .before .before .before .before .before .args .formulas)
-    (c .before .before .before .before .before .before .before .before .before .before .before .args .clauses) b s v
-    (c .before .before .before .before .before .value-of .ensures) i
-    (c .before .before .before .before .before .before .before .before .loop .inv .1) rest (c .before .before .got .given .0 .0)
-    (c .before .before .got .given .0 .1 .0) (c .before .before .got .given .0 .1 .1 .0) next
-    (sym (c .before .before .before .before .step-line .ensures) ∙ c .before .before .got .given .1) in (
+    let next = behind (c .before .before) .rest in
+    let ok1 = step-ok (c .before .before .before .before .before .before .before .before .before .before .before .before .args .formulas)
+    (c .before .before .before .before .before .before .before .before .before .before .before .before .args .clauses) b s v
+    (c .before .before .before .before .before .before .value-of .ensures) i
+    (c .before .before .before .before .before .before .before .before .before .loop .inv .1) rest (at .kind) (at .number) 0 next
+    (at .is) in (
       b ++ (x ∷ []),
-      omega (arith, length-append b (x ∷ []), c .before .before .before .before .before .before .before .before .loop .inv .1),
+      omega (arith, length-append b (x ∷ []), c .before .before .before .before .before .before .before .before .before .loop .inv .1),
       omega arith,
-      simp length-set (c .before .before .before .before .before .before .before .before .loop .inv .3),
-      step-more
-          (length (c .before .before .before .before .before .before .before .before .before .before .before .args .steps .now))
-          (c .before .before .before .before .before .before .before .before .loop .steps) (2 * i) b (c .before .before .got .given .0 .0)
-          (c .before .before .got .given .0 .1 .0) (c .before .before .got .given .0 .1 .1 .0)
-          (c .before .before .before .before .before .before .before .before .loop .inv .4)
-          (omega (arith, c .before .before .before .before .before .before .before .before .loop .inv .1))
+      simp length-set (c .before .before .before .before .before .before .before .before .before .loop .inv .3),
+      ap (λ (p : Pair). set (set (c .before .before .before .before .before .before .before .before .before .loop .steps) (2 * i) (p .kind)) (2 * i + 1) (p .number))
+          (c .before .pair-of .ensures ∙ at .stored) ∙
+          step-more
+          (length (c .before .before .before .before .before .before .before .before .before .before .before .before .args .steps .now))
+          (c .before .before .before .before .before .before .before .before .before .loop .steps) (2 * i) b (at .kind) (at .number) 0
+          (c .before .before .before .before .before .before .before .before .before .loop .inv .4)
+          (omega (arith, c .before .before .before .before .before .before .before .before .before .loop .inv .1))
           (omega (
             arith,
-            c .before .before .before .before .before .before .before .before .before .before .before .pre .0,
-            c .before .before .before .before .before .before .before .before .before .before .before .pre .1,
+            c .before .before .before .before .before .before .before .before .before .before .before .before .pre .0,
+            c .before .before .before .before .before .before .before .before .before .before .before .before .pre .1,
           )),
       turn-more
-          (stepItem (c .before .before .before .before .before .before .before .before .before .before .before .args .formulas)
-          (c .before .before .before .before .before .before .before .before .before .before .before .args .clauses))
-          (c .before .before .before .before .before .before .before .before .before .before .before .args .count) i b s w so
-          (c .before .before .before .before .before .before .before .loop-test .taken) x rest ok1,
+          (stepItem (c .before .before .before .before .before .before .before .before .before .before .before .before .args .formulas)
+          (c .before .before .before .before .before .before .before .before .before .before .before .before .args .clauses))
+          (c .before .before .before .before .before .before .before .before .before .before .before .before .args .count) i b s w so
+          (c .before .before .before .before .before .before .before .before .loop-test .taken) x rest ok1,
       omega
-          (arith, rest-short s rest next, c .before .before .before .before .before .before .before .before .loop .inv .6),
+          (arith, rest-short s rest next, c .before .before .before .before .before .before .before .before .before .loop .inv .6),
     )
 
 sub-taken : tie.Need-sub-taken Inv-loop μ-loop
@@ -281,9 +291,10 @@ read-steps-spec =
     add-place-2
     cast-place
     add-place-3
-    row-refused-requires
+    step-refused-requires
     same-length
     returns
+    pair-of-requires
     cast-at
     mul-at
     add-second

@@ -1,76 +1,75 @@
 -- `step_of` meets its contract: each arm knows its kind, and past the table's last but one stands the last.
 use mathlib.Core.Path.{sym}
-use Rattle.machine.specs.Machine.{stepIn}
-use Rattle.machine.proofs.Turns.{kind-note, beyond}
-use Rattle.machine.proofs.walking.step_of.Statement.{statement}
-use Rattle.machine.proofs.walking.step_of.Tie as tie
+use Rattle.steps.specs.Steps.{stepFrom, kind-note, beyond}
+use Rattle.steps.proofs.step_of.Statement.{statement}
+use Rattle.steps.proofs.step_of.Tie as tie
 
 returns : tie.Need-returns
-unfolding stepIn
+unfolding stepFrom
 returns c = rw (c .match .keys1)
 
 returns-2 : tie.Need-returns-2
-unfolding stepIn
+unfolding stepFrom
 returns-2 c = rw (c .match .keys2)
 
 returns-3 : tie.Need-returns-3
-unfolding stepIn
+unfolding stepFrom
 returns-3 c = rw (c .match .keys3)
 
 returns-4 : tie.Need-returns-4
-unfolding stepIn
+unfolding stepFrom
 returns-4 c = rw (c .match .keys4)
 
 returns-5 : tie.Need-returns-5
-unfolding stepIn
+unfolding stepFrom
 returns-5 c = rw (c .match .keys5)
 
 returns-6 : tie.Need-returns-6
-unfolding stepIn
+unfolding stepFrom
 returns-6 c = rw (c .match .keys6)
 
 returns-7 : tie.Need-returns-7
-unfolding stepIn
+unfolding stepFrom
 returns-7 c = rw (c .match .keys7)
 
 returns-8 : tie.Need-returns-8
-unfolding stepIn
+unfolding stepFrom
 returns-8 c = rw (c .match .keys8)
 
 returns-9 : tie.Need-returns-9
-unfolding stepIn
+unfolding stepFrom
 returns-9 c = rw (c .match .keys9)
 
 returns-10 : tie.Need-returns-10
-unfolding stepIn
+unfolding stepFrom
 returns-10 c = rw (c .match .keys10)
 
 returns-11 : tie.Need-returns-11
-unfolding stepIn
+unfolding stepFrom
 returns-11 c = rw (c .match .keys11)
 
 returns-12 : tie.Need-returns-12
-unfolding stepIn
+unfolding stepFrom
 returns-12 c = rw (c .match .keys12)
 
 returns-13 : tie.Need-returns-13
-unfolding stepIn
+unfolding stepFrom
 returns-13 c = rw (c .match .keys13)
 
 returns-14 : tie.Need-returns-14
-unfolding stepIn
+unfolding stepFrom
 returns-14 c = rw (c .match .keys14)
 
 returns-15 : tie.Need-returns-15
-unfolding stepIn
+unfolding stepFrom
 returns-15 c = rw (c .match .keys15)
 
 returns-16 : tie.Need-returns-16
-unfolding stepIn
+unfolding stepFrom
 returns-16 c = rw (c .match .keys16)
 
 returns-17 : tie.Need-returns-17
-unfolding stepIn
+unfolding stepFrom
 returns-17 c = rw (c .match .keys17)
 
 returns-18 : tie.Need-returns-18
