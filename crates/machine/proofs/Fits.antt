@@ -36,9 +36,13 @@ module _ (w c k n : ℕ) where
   unfolding fitsIn
   no-move number = tt
 
-  goes : (p : Phase) → fitsIn (Fits (move.Go p)) w c k n
+  goes : (f : ℕ) → fitsIn (Fits (move.Go f)) w c k n
   unfolding fitsIn
-  goes p = tt
+  goes f = tt
+
+  aims : (f : ℕ) (v : World) → fitsIn (Fits (move.Aim f v)) w c k n
+  unfolding fitsIn
+  aims f v = tt
 
   closes : fitsIn (Fits move.Close) w c k n
   unfolding fitsIn
@@ -66,22 +70,22 @@ module _ (w c k n : ℕ) where
       go true e = tt
       go false e = free (leb-false most have e)
 
-  if-found : (f : Found) (target : Lab) → fitsIn (ifFound f (λ clause. Fits (move.Go (phase.Focus clause target)))) w c k n
+  if-found : (f : Found) → fitsIn (ifFound f (λ clause. Fits (move.Aim (clause .form) (clause .at)))) w c k n
   unfolding ifFound
-  if-found (found.At l) target = goes (phase.Focus l target)
-  if-found found.Nothing target = no-move 8
+  if-found (found.At l) = aims (l .form) (l .at)
+  if-found found.Nothing = no-move 8
 
-  on-and : (r : Row) (u : World) → fitsIn (andStep r u n) w c k n
+  on-and : (r : Row) → fitsIn (andStep r n) w c k n
   unfolding andStep room
-  on-and r u = test _ _ _ (limit 256 n (move.Both _ _) (λ h. h)) (no-move 7)
+  on-and r = test _ _ _ (limit 256 n (move.Both _ _) (λ h. h)) (no-move 7)
 
-  on-or1 : (r : Row) (u : World) → fitsIn (or1Step r u) w c k n
+  on-or1 : (r : Row) → fitsIn (or1Step r) w c k n
   unfolding or1Step
-  on-or1 r u = test _ _ _ (goes _) (no-move 7)
+  on-or1 r = test _ _ _ (goes _) (no-move 7)
 
-  on-or2 : (r : Row) (u : World) → fitsIn (or2Step r u) w c k n
+  on-or2 : (r : Row) → fitsIn (or2Step r) w c k n
   unfolding or2Step
-  on-or2 r u = test _ _ _ (goes _) (no-move 7)
+  on-or2 r = test _ _ _ (goes _) (no-move 7)
 
   on-imp : (r : Row) → fitsIn (impStep r w) w c k n
   unfolding impStep room
@@ -99,21 +103,21 @@ module _ (w c k n : ℕ) where
   unfolding sfStep
   on-sf rows r u = test _ _ _ (test _ _ _ closes (no-move 9)) (no-move 7)
 
-  on-use : (r : Row) (g : Lab) (f : Found) → fitsIn (useStep r g f) w c k n
+  on-use : (r : Row) (f : Found) → fitsIn (useStep r f) w c k n
   unfolding useStep
-  on-use r g f = test _ _ _ (if-found f g) (no-move 7)
+  on-use r f = test _ _ _ (if-found f) (no-move 7)
 
   on-goal : (forms rows clauses ats : List ℕ) (r : Row) (g : Lab) (x : Step) →
       fitsIn (onGoal forms rows clauses ats r g x w c n) w c k n
   unfolding onGoal
-  on-goal forms rows clauses ats r g step.And = on-and r (g .at)
-  on-goal forms rows clauses ats r g step.Or1 = on-or1 r (g .at)
-  on-goal forms rows clauses ats r g step.Or2 = on-or2 r (g .at)
+  on-goal forms rows clauses ats r g step.And = on-and r
+  on-goal forms rows clauses ats r g step.Or1 = on-or1 r
+  on-goal forms rows clauses ats r g step.Or2 = on-or2 r
   on-goal forms rows clauses ats r g step.Imp = on-imp r
   on-goal forms rows clauses ats r g step.Says = on-says r
   on-goal forms rows clauses ats r g step.Top = on-top r
   on-goal forms rows clauses ats r g step.Sf = on-sf rows r (g .at)
-  on-goal forms rows clauses ats r g (step.Use v) = on-use r g (findClause forms clauses ats c v)
+  on-goal forms rows clauses ats r g (step.Use v) = on-use r (findClause forms clauses ats c v)
   on-goal forms rows clauses ats r g step.Left = no-move 7
   on-goal forms rows clauses ats r g step.Right = no-move 7
   on-goal forms rows clauses ats r g (step.To v) = no-move 7
@@ -135,9 +139,9 @@ module _ (w c k n : ℕ) where
   on-focus forms rows r part target step.Top = no-move 7
   on-focus forms rows r part target step.Sf = no-move 7
   on-focus forms rows r part target (step.Use v) = no-move 7
-  on-focus forms rows r part target step.Left = test _ _ _ (goes _) (no-move 7)
-  on-focus forms rows r part target step.Right = test _ _ _ (goes _) (no-move 7)
-  on-focus forms rows r part target (step.To v) = test _ _ _ (test _ _ _ (no-move 8) (test _ _ _ (limit 256 n _ (λ h. h)) (no-move 9))) (test _ _ _ (test _ _ _ (no-move 8) (test _ _ _ (goes _) (no-move 9))) (no-move 7))
+  on-focus forms rows r part target step.Left = test _ _ _ (aims _ _) (no-move 7)
+  on-focus forms rows r part target step.Right = test _ _ _ (aims _ _) (no-move 7)
+  on-focus forms rows r part target (step.To v) = test _ _ _ (test _ _ _ (no-move 8) (test _ _ _ (limit 256 n _ (λ h. h)) (no-move 9))) (test _ _ _ (test _ _ _ (no-move 8) (test _ _ _ (aims _ _) (no-move 9))) (no-move 7))
   on-focus forms rows r part target step.Hit = test _ _ _ (test _ _ _ (test _ _ _ closes (no-move 9)) (no-move 9)) (no-move 7)
   on-focus forms rows r part target step.Push = no-move 7
   on-focus forms rows r part target step.Split = no-move 7

@@ -176,9 +176,10 @@ moved-is s m o next top made rows chunks saved clauses ats w =
 room-after : (m : Move) (o : Obligation) (w c k opened : ℕ) → room m w c k opened → opened ≤ 256 → changeOf m o opened .opened ≤ 256
 unfolding room changeOf
 room-after move.Close o w c k opened r h = omega arith
-room-after (move.Go p) o w c k opened r h = h
+room-after (move.Go f) o w c k opened r h = h
+room-after (move.Aim f v) o w c k opened r h = h
 room-after (move.Both f g) o w c k opened r h = omega arith
-room-after (move.Meet f p) o w c k opened r h = omega arith
+room-after (move.Meet f g v) o w c k opened r h = omega arith
 room-after (move.Less f g) o w c k opened r h = h
 room-after (move.Speak a f) o w c k opened r h = h
 room-after move.Push o w c k opened r h = h

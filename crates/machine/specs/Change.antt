@@ -14,8 +14,11 @@ use Rattle.machine.specs.declared.Change.{Change}
 abbrev pub world : ℕ → World
 world u = record { 0 = u }
 
+abbrev pub labAt : ℕ → World → Lab
+labAt f u = record { form = f; at = u }
+
 abbrev pub lab : ℕ → ℕ → Lab
-lab f u = record { form = f; at = world u }
+lab f u = labAt f (world u)
 
 -- The number of chunks, and the goal.
 unfoldable pub chunkCount : Phase → ℕ
@@ -32,6 +35,15 @@ goalIn (phase.Focus part target) = target
 unfoldable pub behind : Lab → ℕ → Phase
 unfolding pick
 behind g n = pick (leb n 0) (phase.Goal g) (phase.Chunks g n)
+
+-- A formula as the goal, at the goal's world; and the focus on it at a world, aiming at the goal.
+unfoldable pub here : Phase → ℕ → Phase
+unfolding goalIn
+here p f = phase.Goal (labAt f (goalIn p .at))
+
+unfoldable pub aimed : Phase → ℕ → World → Phase
+unfolding goalIn
+aimed p f v = phase.Focus (labAt f v) (goalIn p)
 
 abbrev pub withPhase : Obligation → Phase → Obligation
 withPhase o p = record { phase = p; worlds = o .worlds; clauses = o .clauses }
@@ -60,11 +72,12 @@ abbrev pub fork : Obligation → Obligation → ℕ → Change
 fork upper lower opened = record { lower = lower; upper = upper; opened = opened + 1 }
 
 unfoldable pub changeOf : Move → Obligation → ℕ → Change
-unfolding popped oneMore newWorld
+unfolding here aimed popped oneMore newWorld
 changeOf move.Close o opened = alone o (opened - 1)
-changeOf (move.Go p) o opened = alone (withPhase o p) opened
-changeOf (move.Both f h) o opened = fork (withPhase o (phase.Goal f)) (withPhase o (phase.Goal h)) opened
-changeOf (move.Meet g p) o opened = fork (withPhase o p) (withPhase o (phase.Goal g)) opened
+changeOf (move.Go f) o opened = alone (withPhase o (here (o .phase) f)) opened
+changeOf (move.Aim f v) o opened = alone (withPhase o (aimed (o .phase) f v)) opened
+changeOf (move.Both f h) o opened = fork (withPhase o (here (o .phase) f)) (withPhase o (here (o .phase) h)) opened
+changeOf (move.Meet f h v) o opened = fork (withPhase o (aimed (o .phase) h v)) (withPhase o (phase.Goal (labAt f v))) opened
 changeOf (move.Less f h) o opened = alone (newWorld o (phase.Chunks (lab h (o .worlds)) 1)) opened
 changeOf (move.Speak a f) o opened = alone (newWorld o (phase.Goal (lab f (o .worlds)))) opened
 changeOf move.Push o opened = alone (withClauses (popped o) (o .clauses + 1)) opened

@@ -7,9 +7,10 @@ use Rattle.moves.specs.declared.Move.the-variants as move
 
 unfoldable pub room : Move → ℕ → ℕ → ℕ → ℕ → Type 0
 room move.Close worlds clauses chunks opened = Unit
-room (move.Go p) worlds clauses chunks opened = Unit
+room (move.Go f) worlds clauses chunks opened = Unit
+room (move.Aim f v) worlds clauses chunks opened = Unit
 room (move.Both f h) worlds clauses chunks opened = opened < mostOpen
-room (move.Meet g p) worlds clauses chunks opened = opened < mostOpen
+room (move.Meet f h v) worlds clauses chunks opened = opened < mostOpen
 room (move.Less f h) worlds clauses chunks opened = worlds < mostWorlds
 room (move.Speak a f) worlds clauses chunks opened = worlds < mostWorlds
 room move.Push worlds clauses chunks opened = clauses < mostClauses

@@ -40,9 +40,10 @@ caseChunks l place n f h =
 unfoldable pub chunksAfter : Move → ℕ → ℕ → List ℕ → List ℕ
 unfolding splitChunks caseChunks
 chunksAfter move.Close n place l = l
-chunksAfter (move.Go p) n place l = l
+chunksAfter (move.Go f) n place l = l
+chunksAfter (move.Aim f v) n place l = l
 chunksAfter (move.Both f h) n place l = l
-chunksAfter (move.Meet g p) n place l = l
+chunksAfter (move.Meet f h v) n place l = l
 chunksAfter (move.Less f h) n place l = set l (place * 16 + 0) f
 chunksAfter (move.Speak a f) n place l = l
 chunksAfter move.Push n place l = l
@@ -60,9 +61,10 @@ savedAfter opened more rows worlds saved = pick (leb more opened) saved (putBloc
 unfoldable pub rowsAfter : Move → Obligation → Obligation → List ℕ → List ℕ → List ℕ
 unfolding goalIn grownLe grownBy noted putSf
 rowsAfter move.Close o next kept rows = putSf rows (next .worlds - 1) kept
-rowsAfter (move.Go p) o next kept rows = rows
+rowsAfter (move.Go f) o next kept rows = rows
+rowsAfter (move.Aim f v) o next kept rows = rows
 rowsAfter (move.Both f h) o next kept rows = rows
-rowsAfter (move.Meet g p) o next kept rows = rows
+rowsAfter (move.Meet f h v) o next kept rows = rows
 rowsAfter (move.Less f h) o next kept rows = grownLe rows (goalIn (o .phase) .at .0) (o .worlds)
 rowsAfter (move.Speak a f) o next kept rows = grownBy rows (a .0) (goalIn (o .phase) .at .0) (o .worlds)
 rowsAfter move.Push o next kept rows = rows

@@ -3,7 +3,7 @@ ghost use mathlib.Core.Path.{_≡_};
 ghost use Prim.Native.Nat.{_+_, _-_, _<_};
 ghost use lib.ListN.{set};
 ghost use Rattle.scope.specs.Limits.{mostWorlds, mostClauses, mostOpen, mostChunks};
-ghost use Rattle.machine.specs.Change.{lab, chunkCount, goalIn, behind, withPhase, withClauses, popped, oneMore, newWorld, alone, fork, changeOf};
+ghost use Rattle.machine.specs.Change.{lab, labAt, chunkCount, goalIn, behind, here, aimed, withPhase, withClauses, popped, oneMore, newWorld, alone, fork, changeOf};
 ghost use Rattle.machine.specs.Room.{room};
 use crate::Change;
 use crate::Obligation;
@@ -65,6 +65,31 @@ fn behind_chunks(g: Lab, n: u16) -> Phase
         return Phase::Chunks(g, n);
     }
     Phase::Goal(g)
+}
+
+// A formula as the goal, at a world or at the goal's world; and the focus on it, aiming at the goal.
+fn goal_at(f: u16, v: World) -> Phase
+    ensures { λ r. ⌜ r ≡ Phase.Goal (labAt f v) ⌝ }
+{
+    Phase::Goal(Lab { form: f, at: v })
+}
+
+fn goal_here(o: Obligation, f: u16) -> Phase
+    ensures { λ r. ⌜ r ≡ here (o .phase) f ⌝ }
+{
+    let phase = o.phase;
+    let g = goal_in(phase);
+    let u = g.at;
+    goal_at(f, u)
+}
+
+fn focus_on(o: Obligation, f: u16, v: World) -> Phase
+    ensures { λ r. ⌜ r ≡ aimed (o .phase) f v ⌝ }
+{
+    let phase = o.phase;
+    let target = goal_in(phase);
+    let part = Lab { form: f, at: v };
+    Phase::Focus(part, target)
 }
 
 fn with_phase(o: Obligation, phase: Phase) -> Obligation
@@ -142,10 +167,19 @@ fn after_close(o: Obligation, opened: u16) -> Change
     only_one(o, less)
 }
 
-fn after_go(o: Obligation, phase: Phase, opened: u16) -> Change
-    ensures { λ r. ⌜ r ≡ alone (withPhase o phase) opened ⌝ }
+fn after_go(o: Obligation, f: u16, opened: u16) -> Change
+    ensures { λ r. ⌜ r ≡ alone (withPhase o (here (o .phase) f)) opened ⌝ }
 {
-    let next = with_phase(o, phase);
+    let p = goal_here(o, f);
+    let next = with_phase(o, p);
+    only_one(next, opened)
+}
+
+fn after_aim(o: Obligation, f: u16, v: World, opened: u16) -> Change
+    ensures { λ r. ⌜ r ≡ alone (withPhase o (aimed (o .phase) f v)) opened ⌝ }
+{
+    let p = focus_on(o, f, v);
+    let next = with_phase(o, p);
     only_one(next, opened)
 }
 
@@ -199,14 +233,27 @@ fn after_split(o: Obligation, opened: u16) -> Change
     only_one(next, opened)
 }
 
-// and where one more is open: two phases, the first one first, and two branches.
-fn after_two(o: Obligation, f: Phase, h: Phase, opened: u16) -> Change
+// and where one more is open: two goals, the first one first; a subgoal that waits while the focus goes on; and two branches.
+fn after_both(o: Obligation, f: u16, h: u16, opened: u16) -> Change
     requires { ⌜ opened < mostOpen ⌝ }
-    ensures { λ r. ⌜ r ≡ fork (withPhase o f) (withPhase o h) opened ⌝ }
+    ensures { λ r. ⌜ r ≡ fork (withPhase o (here (o .phase) f)) (withPhase o (here (o .phase) h)) opened ⌝ }
 {
-    let upper = with_phase(o, f);
-    let lower = with_phase(o, h);
+    let p = goal_here(o, f);
+    let q = goal_here(o, h);
+    let upper = with_phase(o, p);
+    let lower = with_phase(o, q);
     fork_to(upper, lower, opened)
+}
+
+fn after_meet(o: Obligation, f: u16, h: u16, v: World, opened: u16) -> Change
+    requires { ⌜ opened < mostOpen ⌝ }
+    ensures { λ r. ⌜ r ≡ fork (withPhase o (aimed (o .phase) h v)) (withPhase o (Phase.Goal (labAt f v))) opened ⌝ }
+{
+    let p = focus_on(o, h, v);
+    let q = goal_at(f, v);
+    let focus = with_phase(o, p);
+    let subgoal = with_phase(o, q);
+    fork_to(focus, subgoal, opened)
 }
 
 pub(crate) fn change_of(m: Move, o: Obligation, opened: u16) -> Change
@@ -215,9 +262,10 @@ pub(crate) fn change_of(m: Move, o: Obligation, opened: u16) -> Change
 {
     match m {
         Move::Close => after_close(o, opened),
-        Move::Go(p) => after_go(o, p, opened),
-        Move::Both(f, h) => after_two(o, Phase::Goal(f), Phase::Goal(h), opened),
-        Move::Meet(g, p) => after_two(o, p, Phase::Goal(g), opened),
+        Move::Go(f) => after_go(o, f, opened),
+        Move::Aim(f, v) => after_aim(o, f, v, opened),
+        Move::Both(f, h) => after_both(o, f, h, opened),
+        Move::Meet(f, h, v) => after_meet(o, f, h, v, opened),
         Move::Less(_, h) => after_less(o, h, opened),
         Move::Speak(_, f) => after_speak(o, f, opened),
         Move::Push => after_push(o, opened),

@@ -121,8 +121,9 @@ fn move_chunks(chunks: &mut [u16; ENTRIES], m: Move, o: Obligation, place: u16)
     match m {
         Move::Close => {}
         Move::Go(_) => {}
+        Move::Aim(_, _) => {}
         Move::Both(_, _) => {}
-        Move::Meet(_, _) => {}
+        Move::Meet(_, _, _) => {}
         Move::Less(f, _) => put_chunk(chunks, place, 0, f),
         Move::Speak(_, _) => {}
         Move::Push => {}
@@ -197,8 +198,9 @@ fn move_rows(
     match m {
         Move::Close => put_back(rows, saved, next, below),
         Move::Go(_) => {}
+        Move::Aim(_, _) => {}
         Move::Both(_, _) => {}
-        Move::Meet(_, _) => {}
+        Move::Meet(_, _, _) => {}
         Move::Less(_, _) => grow_less(rows, o),
         Move::Speak(a, _) => grow_speak(rows, a, o),
         Move::Push => {}

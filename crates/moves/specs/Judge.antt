@@ -28,21 +28,21 @@ findClause forms clauses ats count n =
     (pick (eqb (rowAt forms (getD clauses (n .0) 0) .kind) 7) found.Nothing
     (found.At (record { form = getD clauses (n .0) 0; at = record { 0 = getD ats (n .0) 0 } })))
 
-unfoldable pub useClause : List ℕ → List ℕ → List ℕ → ℕ → Row → Lab → Clause → Judged
+unfoldable pub useClause : List ℕ → List ℕ → List ℕ → ℕ → Row → Clause → Judged
 unfolding findClause useStep
-useClause forms clauses ats count r g n = useStep r g (findClause forms clauses ats count n)
+useClause forms clauses ats count r n = useStep r (findClause forms clauses ats count n)
 
 -- r is the row of the goal's formula.
 unfoldable pub onGoal : List ℕ → List ℕ → List ℕ → List ℕ → Row → Lab → Step → ℕ → ℕ → ℕ → Judged
 unfolding andStep or1Step or2Step impStep saysStep topStep sfStep useClause
-onGoal forms rows clauses ats r g step.And worlds count opened = andStep r (g .at) opened
-onGoal forms rows clauses ats r g step.Or1 worlds count opened = or1Step r (g .at)
-onGoal forms rows clauses ats r g step.Or2 worlds count opened = or2Step r (g .at)
+onGoal forms rows clauses ats r g step.And worlds count opened = andStep r opened
+onGoal forms rows clauses ats r g step.Or1 worlds count opened = or1Step r
+onGoal forms rows clauses ats r g step.Or2 worlds count opened = or2Step r
 onGoal forms rows clauses ats r g step.Imp worlds count opened = impStep r worlds
 onGoal forms rows clauses ats r g step.Says worlds count opened = saysStep r worlds
 onGoal forms rows clauses ats r g step.Top worlds count opened = topStep r
 onGoal forms rows clauses ats r g step.Sf worlds count opened = sfStep rows r (g .at)
-onGoal forms rows clauses ats r g (step.Use n) worlds count opened = useClause forms clauses ats count r g n
+onGoal forms rows clauses ats r g (step.Use n) worlds count opened = useClause forms clauses ats count r n
 onGoal forms rows clauses ats r g step.Left worlds count opened = No 7
 onGoal forms rows clauses ats r g step.Right worlds count opened = No 7
 onGoal forms rows clauses ats r g (step.To n) worlds count opened = No 7
@@ -69,9 +69,9 @@ onFocus forms rows r part target step.Says worlds opened = No 7
 onFocus forms rows r part target step.Top worlds opened = No 7
 onFocus forms rows r part target step.Sf worlds opened = No 7
 onFocus forms rows r part target (step.Use n) worlds opened = No 7
-onFocus forms rows r part target step.Left worlds opened = leftStep r (part .at) target
-onFocus forms rows r part target step.Right worlds opened = rightStep r (part .at) target
-onFocus forms rows r part target (step.To n) worlds opened = toStep rows r (part .at) n target worlds opened
+onFocus forms rows r part target step.Left worlds opened = leftStep r (part .at)
+onFocus forms rows r part target step.Right worlds opened = rightStep r (part .at)
+onFocus forms rows r part target (step.To n) worlds opened = toStep rows r (part .at) n worlds opened
 onFocus forms rows r part target step.Hit worlds opened = hitStep rows r (part .at) (rowAt forms (target .form) .left) (target .at)
 onFocus forms rows r part target step.Push worlds opened = No 7
 onFocus forms rows r part target step.Split worlds opened = No 7

@@ -13,7 +13,6 @@ use Rattle.moves.specs.declared.Row.{Row}
 use Rattle.moves.specs.declared.Lab.{Lab}
 use Rattle.moves.specs.declared.Found.{Found}
 use Rattle.moves.specs.declared.Found.the-variants as found
-use Rattle.moves.specs.declared.Phase.the-variants as phase
 use Rattle.moves.specs.declared.Move.the-variants as move
 use Rattle.moves.specs.declared.Judged.{Judged}
 use Rattle.moves.specs.declared.Judged.the-variants.{Fits, No}
@@ -23,23 +22,20 @@ unfoldable pub pick : {A : Type 0} → Bool → A → A → A
 pick true x y = x
 pick false x y = y
 
-abbrev pub lab : ℕ → World → Lab
-lab f u = record { form = f; at = u }
-
 abbrev pub principal : ℕ → Principal
 principal a = record { 0 = a }
 
 -- Goal at u, no chunks, no focus.
 
-unfoldable pub andStep : Row → World → ℕ → Judged
-andStep r u opened =
-    pick (eqb (r .kind) 3) (pick (leb mostOpen opened) (No 10) (Fits (move.Both (lab (r .left) u) (lab (r .right) u)))) (No 7)
+unfoldable pub andStep : Row → ℕ → Judged
+andStep r opened =
+    pick (eqb (r .kind) 3) (pick (leb mostOpen opened) (No 10) (Fits (move.Both (r .left) (r .right)))) (No 7)
 
-unfoldable pub or1Step : Row → World → Judged
-or1Step r u = pick (eqb (r .kind) 4) (Fits (move.Go (phase.Goal (lab (r .left) u)))) (No 7)
+unfoldable pub or1Step : Row → Judged
+or1Step r = pick (eqb (r .kind) 4) (Fits (move.Go (r .left))) (No 7)
 
-unfoldable pub or2Step : Row → World → Judged
-or2Step r u = pick (eqb (r .kind) 4) (Fits (move.Go (phase.Goal (lab (r .right) u)))) (No 7)
+unfoldable pub or2Step : Row → Judged
+or2Step r = pick (eqb (r .kind) 4) (Fits (move.Go (r .right))) (No 7)
 
 unfoldable pub impStep : Row → ℕ → Judged
 impStep r worlds = pick (eqb (r .kind) 5) (pick (leb mostWorlds worlds) (No 10) (Fits (move.Less (r .left) (r .right)))) (No 7)
@@ -58,34 +54,34 @@ unfoldable pub ifFound : Found → (Lab → Judged) → Judged
 ifFound (found.At l) j = j l
 ifFound found.Nothing j = No 8
 
-unfoldable pub useStep : Row → Lab → Found → Judged
-useStep r target f = pick (eqb (r .kind) 0) (ifFound f (λ clause. Fits (move.Go (phase.Focus clause target)))) (No 7)
+unfoldable pub useStep : Row → Found → Judged
+useStep r f = pick (eqb (r .kind) 0) (ifFound f (λ clause. Fits (move.Aim (clause .form) (clause .at)))) (No 7)
 
 -- In focus on a clause at u, aiming at an atom at w.
 
-unfoldable pub leftStep : Row → World → Lab → Judged
-leftStep r u target = pick (eqb (r .kind) 3) (Fits (move.Go (phase.Focus (lab (r .left) u) target))) (No 7)
+unfoldable pub leftStep : Row → World → Judged
+leftStep r u = pick (eqb (r .kind) 3) (Fits (move.Aim (r .left) u)) (No 7)
 
-unfoldable pub rightStep : Row → World → Lab → Judged
-rightStep r u target = pick (eqb (r .kind) 3) (Fits (move.Go (phase.Focus (lab (r .right) u) target))) (No 7)
+unfoldable pub rightStep : Row → World → Judged
+rightStep r u = pick (eqb (r .kind) 3) (Fits (move.Aim (r .right) u)) (No 7)
 
-unfoldable pub toImp : List ℕ → Row → World → World → Lab → ℕ → ℕ → Judged
-toImp rows r u v target worlds opened =
+unfoldable pub toImp : List ℕ → Row → World → World → ℕ → ℕ → Judged
+toImp rows r u v worlds opened =
     pick (leb worlds (v .0)) (No 8)
     (pick (told rows (Fact.le (u .0) (v .0)))
-    (pick (leb mostOpen opened) (No 10) (Fits (move.Meet (lab (r .left) v) (phase.Focus (lab (r .right) v) target))))
+    (pick (leb mostOpen opened) (No 10) (Fits (move.Meet (r .left) (r .right) v)))
     (No 9))
 
-unfoldable pub toSays : List ℕ → Row → World → World → Lab → ℕ → Judged
-toSays rows r u v target worlds =
+unfoldable pub toSays : List ℕ → Row → World → World → ℕ → Judged
+toSays rows r u v worlds =
     pick (leb worlds (v .0)) (No 8)
-    (pick (told rows (Fact.by (r .left) (u .0) (v .0))) (Fits (move.Go (phase.Focus (lab (r .right) v) target))) (No 9))
+    (pick (told rows (Fact.by (r .left) (u .0) (v .0))) (Fits (move.Aim (r .right) v)) (No 9))
 
-unfoldable pub toStep : List ℕ → Row → World → World → Lab → ℕ → ℕ → Judged
+unfoldable pub toStep : List ℕ → Row → World → World → ℕ → ℕ → Judged
 unfolding toImp toSays
-toStep rows r u v target worlds opened =
-    pick (eqb (r .kind) 5) (toImp rows r u v target worlds opened)
-    (pick (eqb (r .kind) 6) (toSays rows r u v target worlds) (No 7))
+toStep rows r u v worlds opened =
+    pick (eqb (r .kind) 5) (toImp rows r u v worlds opened)
+    (pick (eqb (r .kind) 6) (toSays rows r u v worlds) (No 7))
 
 unfoldable pub hitStep : List ℕ → Row → World → ℕ → World → Judged
 hitStep rows r u atom w =

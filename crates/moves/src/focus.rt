@@ -2,51 +2,33 @@
 ghost use mathlib.Core.Path.{_≡_};
 ghost use Rattle.moves.specs.Steps.{leftStep, rightStep, toImp, toSays, toStep, hitStep};
 use crate::Judged;
-use crate::Lab;
 use crate::MOST_OPEN;
 use crate::Move;
-use crate::Phase;
 use crate::Row;
 use facts::ROWS;
 use steps::Principal;
 use steps::World;
 
-pub(crate) fn left_step(r: Row, u: World, target: Lab) -> Judged
-    ensures { λ j. ⌜ j ≡ leftStep r u target ⌝ }
+pub(crate) fn left_step(r: Row, u: World) -> Judged
+    ensures { λ j. ⌜ j ≡ leftStep r u ⌝ }
 {
     if r.kind != 3 {
         return Judged::No(7);
     }
-    let part = Lab {
-        form: r.left,
-        at: u,
-    };
-    Judged::Fits(Move::Go(Phase::Focus(part, target)))
+    Judged::Fits(Move::Aim(r.left, u))
 }
 
-pub(crate) fn right_step(r: Row, u: World, target: Lab) -> Judged
-    ensures { λ j. ⌜ j ≡ rightStep r u target ⌝ }
+pub(crate) fn right_step(r: Row, u: World) -> Judged
+    ensures { λ j. ⌜ j ≡ rightStep r u ⌝ }
 {
     if r.kind != 3 {
         return Judged::No(7);
     }
-    let part = Lab {
-        form: r.right,
-        at: u,
-    };
-    Judged::Fits(Move::Go(Phase::Focus(part, target)))
+    Judged::Fits(Move::Aim(r.right, u))
 }
 
-fn to_imp(
-    rows: &[facts::Row; ROWS],
-    r: Row,
-    u: World,
-    v: World,
-    target: Lab,
-    worlds: u16,
-    opened: u16,
-) -> Judged
-    ensures { λ j. ⌜ j ≡ toImp (now (rows .entry)) r u v target worlds opened ⌝ }
+fn to_imp(rows: &[facts::Row; ROWS], r: Row, u: World, v: World, worlds: u16, opened: u16) -> Judged
+    ensures { λ j. ⌜ j ≡ toImp (now (rows .entry)) r u v worlds opened ⌝ }
 {
     if v.0 < worlds {
         let there = facts::has_le(rows, u, v);
@@ -54,15 +36,7 @@ fn to_imp(
             if MOST_OPEN <= opened {
                 return Judged::No(10);
             }
-            let subgoal = Lab {
-                form: r.left,
-                at: v,
-            };
-            let part = Lab {
-                form: r.right,
-                at: v,
-            };
-            Judged::Fits(Move::Meet(subgoal, Phase::Focus(part, target)))
+            Judged::Fits(Move::Meet(r.left, r.right, v))
         } else {
             Judged::No(9)
         }
@@ -71,26 +45,15 @@ fn to_imp(
     }
 }
 
-fn to_says(
-    rows: &[facts::Row; ROWS],
-    r: Row,
-    u: World,
-    v: World,
-    target: Lab,
-    worlds: u16,
-) -> Judged
-    ensures { λ j. ⌜ j ≡ toSays (now (rows .entry)) r u v target worlds ⌝ }
+fn to_says(rows: &[facts::Row; ROWS], r: Row, u: World, v: World, worlds: u16) -> Judged
+    ensures { λ j. ⌜ j ≡ toSays (now (rows .entry)) r u v worlds ⌝ }
 {
     if worlds <= v.0 {
         return Judged::No(8);
     }
     let there = facts::has_by(rows, Principal(r.left), u, v);
     if there {
-        let part = Lab {
-            form: r.right,
-            at: v,
-        };
-        return Judged::Fits(Move::Go(Phase::Focus(part, target)));
+        return Judged::Fits(Move::Aim(r.right, v));
     }
     Judged::No(9)
 }
@@ -100,17 +63,16 @@ pub(crate) fn to_step(
     r: Row,
     u: World,
     v: World,
-    target: Lab,
     worlds: u16,
     opened: u16,
 ) -> Judged
-    ensures { λ j. ⌜ j ≡ toStep (now (rows .entry)) r u v target worlds opened ⌝ }
+    ensures { λ j. ⌜ j ≡ toStep (now (rows .entry)) r u v worlds opened ⌝ }
 {
     if r.kind == 5 {
-        return to_imp(rows, r, u, v, target, worlds, opened);
+        return to_imp(rows, r, u, v, worlds, opened);
     }
     if r.kind == 6 {
-        return to_says(rows, r, u, v, target, worlds);
+        return to_says(rows, r, u, v, worlds);
     }
     Judged::No(7)
 }

@@ -3,18 +3,16 @@ ghost use mathlib.Core.Path.{_≡_};
 ghost use Rattle.moves.specs.Steps.{andStep, or1Step, or2Step, impStep, saysStep, topStep, sfStep, useStep};
 use crate::Found;
 use crate::Judged;
-use crate::Lab;
 use crate::MOST_OPEN;
 use crate::MOST_WORLDS;
 use crate::Move;
-use crate::Phase;
 use crate::Row;
 use facts::ROWS;
 use steps::Principal;
 use steps::World;
 
-pub(crate) fn and_step(r: Row, u: World, opened: u16) -> Judged
-    ensures { λ j. ⌜ j ≡ andStep r u opened ⌝ }
+pub(crate) fn and_step(r: Row, opened: u16) -> Judged
+    ensures { λ j. ⌜ j ≡ andStep r opened ⌝ }
 {
     if r.kind != 3 {
         return Judged::No(7);
@@ -22,41 +20,25 @@ pub(crate) fn and_step(r: Row, u: World, opened: u16) -> Judged
     if MOST_OPEN <= opened {
         return Judged::No(10);
     }
-    let first = Lab {
-        form: r.left,
-        at: u,
-    };
-    let second = Lab {
-        form: r.right,
-        at: u,
-    };
-    Judged::Fits(Move::Both(first, second))
+    Judged::Fits(Move::Both(r.left, r.right))
 }
 
-pub(crate) fn or1_step(r: Row, u: World) -> Judged
-    ensures { λ j. ⌜ j ≡ or1Step r u ⌝ }
+pub(crate) fn or1_step(r: Row) -> Judged
+    ensures { λ j. ⌜ j ≡ or1Step r ⌝ }
 {
     if r.kind != 4 {
         return Judged::No(7);
     }
-    let part = Lab {
-        form: r.left,
-        at: u,
-    };
-    Judged::Fits(Move::Go(Phase::Goal(part)))
+    Judged::Fits(Move::Go(r.left))
 }
 
-pub(crate) fn or2_step(r: Row, u: World) -> Judged
-    ensures { λ j. ⌜ j ≡ or2Step r u ⌝ }
+pub(crate) fn or2_step(r: Row) -> Judged
+    ensures { λ j. ⌜ j ≡ or2Step r ⌝ }
 {
     if r.kind != 4 {
         return Judged::No(7);
     }
-    let part = Lab {
-        form: r.right,
-        at: u,
-    };
-    Judged::Fits(Move::Go(Phase::Goal(part)))
+    Judged::Fits(Move::Go(r.right))
 }
 
 pub(crate) fn imp_step(r: Row, worlds: u16) -> Judged
@@ -105,8 +87,8 @@ pub(crate) fn sf_step(rows: &[facts::Row; ROWS], r: Row, u: World) -> Judged
     Judged::No(9)
 }
 
-pub(crate) fn use_step(r: Row, target: Lab, found: Found) -> Judged
-    ensures { λ j. ⌜ j ≡ useStep r target found ⌝ }
+pub(crate) fn use_step(r: Row, found: Found) -> Judged
+    ensures { λ j. ⌜ j ≡ useStep r found ⌝ }
 {
     if r.kind != 0 {
         return Judged::No(7);
@@ -114,5 +96,6 @@ pub(crate) fn use_step(r: Row, target: Lab, found: Found) -> Judged
     let Found::At(clause) = found else {
         return Judged::No(8);
     };
-    Judged::Fits(Move::Go(Phase::Focus(clause, target)))
+    let u = clause.at;
+    Judged::Fits(Move::Aim(clause.form, u))
 }

@@ -71,13 +71,12 @@ fn use_clause(
     ats: &[u16; CLAUSES],
     count: u16,
     r: Row,
-    g: Lab,
     n: Clause,
 ) -> Judged
-    ensures { λ j. ⌜ j ≡ useClause (now (forms .entry)) (now (clauses .entry)) (now (ats .entry)) count r g n ⌝ }
+    ensures { λ j. ⌜ j ≡ useClause (now (forms .entry)) (now (clauses .entry)) (now (ats .entry)) count r n ⌝ }
 {
     let found = find_clause(forms, clauses, ats, count, n);
-    goal::use_step(r, g, found)
+    goal::use_step(r, found)
 }
 
 fn goal_step(
@@ -98,14 +97,14 @@ fn goal_step(
     let u = g.at;
     let r = row_at(forms, f);
     match x {
-        Step::And => goal::and_step(r, u, opened),
-        Step::Or1 => goal::or1_step(r, u),
-        Step::Or2 => goal::or2_step(r, u),
+        Step::And => goal::and_step(r, opened),
+        Step::Or1 => goal::or1_step(r),
+        Step::Or2 => goal::or2_step(r),
         Step::Imp => goal::imp_step(r, worlds),
         Step::Says => goal::says_step(r, worlds),
         Step::Top => goal::top_step(r),
         Step::Sf => goal::sf_step(rows, r, u),
-        Step::Use(n) => use_clause(forms, clauses, ats, count, r, g, n),
+        Step::Use(n) => use_clause(forms, clauses, ats, count, r, n),
         Step::Left => Judged::No(7),
         Step::Right => Judged::No(7),
         Step::To(_) => Judged::No(7),
@@ -146,9 +145,9 @@ fn focus_step(
         Step::Top => Judged::No(7),
         Step::Sf => Judged::No(7),
         Step::Use(_) => Judged::No(7),
-        Step::Left => focus::left_step(r, u, target),
-        Step::Right => focus::right_step(r, u, target),
-        Step::To(n) => focus::to_step(rows, r, u, n, target, worlds, opened),
+        Step::Left => focus::left_step(r, u),
+        Step::Right => focus::right_step(r, u),
+        Step::To(n) => focus::to_step(rows, r, u, n, worlds, opened),
         Step::Hit => focus::hit_step(rows, r, u, atom, w),
         Step::Push => Judged::No(7),
         Step::Split => Judged::No(7),

@@ -40,12 +40,14 @@ pub enum Phase {
 pub enum Move {
     // It is closed.
     Close,
-    // It goes on in this phase.
-    Go(Phase),
-    // Two goals take its place, the first one first.
-    Both(Lab, Lab),
-    // A subgoal is met, and the focus goes on.
-    Meet(Lab, Phase),
+    // The formula is the goal, at the goal's world.
+    Go(u16),
+    // The focus goes to the formula at the world.
+    Aim(u16, World),
+    // Two goals at the goal's world take its place, the first one first.
+    Both(u16, u16),
+    // The first formula at the world is a subgoal, and the focus goes to the second there.
+    Meet(u16, u16, World),
     // A new world behind the goal's by ≤, where the first formula is a chunk and the second the goal.
     Less(u16, u16),
     // A new world behind the goal's by S of the principal, where the formula is the goal.

@@ -1,6 +1,6 @@
 -- In focus on a part of a clause: each of the eighteen steps, judged on the part's row, matches document 01's step (`focus-steps`).
 use Prim.Native.Nat.{ℕ, suc, _+_, _<_}
-use mathlib.Core.Path.{_≡_, sym, ap, _∙_}
+use mathlib.Core.Path.{_≡_, refl, sym, ap, _∙_}
 use mathlib.Core.Bool.{true}
 use mathlib.Core.List.{List, [], _∷_, _++_, map}
 use native.Mathlib.Omega.{arith}
@@ -24,12 +24,13 @@ use Rattle.steps.specs.Steps.{stepIs}
 use Rattle.moves.specs.Steps.{pick, leftStep, rightStep, toStep, hitStep}
 use Rattle.moves.specs.Judge.{rowAt, onFocus, focusStep}
 use Rattle.machine.specs.Change as numbers
+use Rattle.machine.specs.Change.{goalIn}
 use Rattle.machine.specs.Machine.{Stack}
 use Rattle.walks.specs.Trees.{Reading}
 use Rattle.walks.specs.Related.{Entry, stateOf, downFrom, in-focus, seq, Waits, metIn, Frame}
 use Rattle.walks.specs.Views.{waits-count}
 use Rattle.walks.specs.Moved.{moved-close}
-use Rattle.walks.specs.Moves.{moved-go, moved-meet}
+use Rattle.walks.specs.Moves.{moved-aim, moved-meet}
 use Rattle.walks.specs.Rooms.{within-true, open-over, met-length, goals-small, goals-open}
 use Rattle.walks.specs.Fitting.{alone-within, clauses-few}
 use Rattle.walks.specs.Match.{Match, no-fit, no-room, fits, told-has, if-room, if-need, if-below, only-atom, only-and}
@@ -63,49 +64,49 @@ module _ {T : Reading} {rows cl ats ch sv : List ℕ} {stack : Stack} {es : List
 
   -- The focus goes on, with the same subgoals met.
   goes : (g v : ℕ) → g < T .formulas →
-      Fit (Fits (move.Go (phase.Focus (numbers.lab g v) (numbers.lab t w)))) (alone here (on g v met))
-  unfolding metIn metCount chunkCount
+      Fit (Fits (move.Aim g (numbers.world v))) (alone here (on g v met))
+  unfolding goalIn metCount chunkCount
   goes g v p =
       fits (alone-within frame (length waiting) (on g v met) (omega arith) (omega (arith, count, frame .room)))
-      (moved-go frame down (in-focus p aimed atom) waits)
+      (moved-aim frame down t refl p aimed atom (lab (T .tree f) u) waits)
 
-  left-fits : Fit (leftStep row (numbers.world u) (numbers.lab t w)) (stepOn O.Left here there)
+  left-fits : Fit (leftStep row (numbers.world u)) (stepOn O.Left here there)
   unfolding leftStep stepOn
   left-fits =
-      only-and (λ l r. Fits (move.Go (phase.Focus (numbers.lab l u) (numbers.lab t w)))) (λ g h. alone here (focus (lab g u) q w met))
+      only-and (λ l r. Fits (move.Aim l (numbers.world u))) (λ g h. alone here (focus (lab g u) q w met))
       (λ g h p r. goes g u p) (T .means f named)
 
-  right-fits : Fit (rightStep row (numbers.world u) (numbers.lab t w)) (stepOn O.Right here there)
+  right-fits : Fit (rightStep row (numbers.world u)) (stepOn O.Right here there)
   unfolding rightStep stepOn
   right-fits =
-      only-and (λ l r. Fits (move.Go (phase.Focus (numbers.lab r u) (numbers.lab t w)))) (λ g h. alone here (focus (lab h u) q w met))
+      only-and (λ l r. Fits (move.Aim r (numbers.world u))) (λ g h. alone here (focus (lab h u) q w met))
       (λ g h p r. goes h u r) (T .means f named)
 
   -- A subgoal is met at v.
   meets : (g h v : ℕ) → g < T .formulas → h < T .formulas → v < suc m →
-      Fit (pick (leb 256 (suc n)) (No 10) (Fits (move.Meet (numbers.lab g v) (phase.Focus (numbers.lab h v) (numbers.lab t w)))))
+      Fit (pick (leb 256 (suc n)) (No 10) (Fits (move.Meet g h (numbers.world v))))
       (alone here (on h v (lab (T .tree g) v ∷ met)))
-  unfolding openCount metCount chunkCount
+  unfolding goalIn openCount metCount chunkCount
   meets g h v p r inside =
       if-room 256 (suc n)
       (λ full. no-room (open-over (length waiting) (ob here (on h v (lab (T .tree g) v ∷ met)) ∷ []) (omega (arith, count))))
       (λ free.
       fits
       (alone-within frame (length waiting) (on h v (lab (T .tree g) v ∷ met)) (omega arith) (omega (arith, count)))
-      (moved-meet frame down t p r inside aimed atom free (lab (T .tree f) u) waits))
+      (moved-meet frame down t refl p r inside aimed atom free (lab (T .tree f) u) waits))
 
   to-fits : (v : ℕ) →
-      Fit (toStep rows row (numbers.world u) (numbers.world v) (numbers.lab t w) (suc m) (suc n)) (stepOn (O.To v) here there)
+      Fit (toStep rows row (numbers.world u) (numbers.world v) (suc m) (suc n)) (stepOn (O.To v) here there)
   unfolding toStep stepOn
   to-fits v =
       only-imp-says
       (λ l r.
       pick (leb (suc m) v) (No 8)
       (pick (told rows (Fact.le u v))
-      (pick (leb 256 (suc n)) (No 10) (Fits (move.Meet (numbers.lab l v) (phase.Focus (numbers.lab r v) (numbers.lab t w))))) (No 9)))
+      (pick (leb 256 (suc n)) (No 10) (Fits (move.Meet l r (numbers.world v)))) (No 9)))
       (λ l r.
       pick (leb (suc m) v) (No 8)
-      (pick (told rows (Fact.by l u v)) (Fits (move.Go (phase.Focus (numbers.lab r v) (numbers.lab t w)))) (No 9)))
+      (pick (told rows (Fact.by l u v)) (Fits (move.Aim r (numbers.world v))) (No 9)))
       (λ g h. need 8 (ltb v (suc m)) (need 9 (has here (Fact.le u v)) (alone here (focus (lab h v) q w (lab g v ∷ met)))))
       (λ a g. need 8 (ltb v (suc m)) (need 9 (has here (Fact.by a u v)) (alone here (focus (lab g v) q w met))))
       (λ g h p r.

@@ -29,12 +29,13 @@ use Rattle.moves.specs.declared.Found.the-variants as found
 use Rattle.moves.specs.Steps.{pick, principal, andStep, or1Step, or2Step, impStep, saysStep, topStep, sfStep, ifFound, useStep}
 use Rattle.moves.specs.Judge.{rowAt, findClause, useClause, onGoal, goalStep}
 use Rattle.machine.specs.Change as numbers
+use Rattle.machine.specs.Change.{goalIn}
 use Rattle.machine.specs.Machine.{Stack}
 use Rattle.walks.specs.Trees.{Reading}
 use Rattle.walks.specs.Related.{Entry, stateOf, downFrom, at-goal, at-rest, in-focus, seq, Waits, metIn, Frame}
 use Rattle.walks.specs.Views.{waits-count}
 use Rattle.walks.specs.Moved.{moved-close}
-use Rattle.walks.specs.Moves.{moved-go, moved-both, moved-less, moved-speak}
+use Rattle.walks.specs.Moves.{moved-go, moved-aim, moved-both, moved-less, moved-speak}
 use Rattle.walks.specs.Rooms.{open-over, worlds-over}
 use Rattle.walks.specs.Fitting.{alone-within, pair-within, none-within, one-within, clauses-few, clause-at, clause-past}
 use Rattle.walks.specs.Match.{Match, no-fit, no-room, fits, told-has, if-room, if-need, only-atom, only-top, only-and}
@@ -64,34 +65,34 @@ module _ {T : Reading} {rows cl ats ch sv : List ℕ} {stack : Stack} {es : List
   count : n ≡ w
   count = waits-count stack n down waits
 
-  and-fits : Fit (andStep row (numbers.world u) (suc n)) (stepOn O.And here there)
-  unfolding andStep stepOn openCount metCount chunkCount
+  and-fits : Fit (andStep row (suc n)) (stepOn O.And here there)
+  unfolding andStep goalIn stepOn openCount metCount chunkCount
   and-fits =
-      only-and (λ l r. pick (leb 256 (suc n)) (No 10) (Fits (move.Both (numbers.lab l u) (numbers.lab r u))))
+      only-and (λ l r. pick (leb 256 (suc n)) (No 10) (Fits (move.Both l r)))
       (λ g h. onto (ob here (at-u g) ∷ ob here (at-u h) ∷ []))
       (λ g h p q.
       if-room 256 (suc n)
       (λ full. no-room (open-over w (ob here (at-u (T .tree g)) ∷ ob here (at-u (T .tree h)) ∷ []) (omega (arith, count))))
       (λ free. fits (pair-within frame w (at-u (T .tree g)) (at-u (T .tree h)) (omega arith) (omega arith) (omega (arith, count)))
-      (moved-both frame down p q inside free waits)))
+      (moved-both frame down refl p q inside free waits)))
       (T .means f named)
 
   -- A goal in its place.
-  goes : (g : ℕ) → g < T .formulas → Fit (Fits (move.Go (phase.Goal (numbers.lab g u)))) (alone here (at-u (T .tree g)))
-  unfolding metIn metCount chunkCount
+  goes : (g : ℕ) → g < T .formulas → Fit (Fits (move.Go g)) (alone here (at-u (T .tree g)))
+  unfolding goalIn metCount chunkCount
   goes g p =
       fits (alone-within frame w (at-u (T .tree g)) (omega arith) (omega (arith, count, frame .room)))
-      (moved-go frame down (at-rest (at-goal p inside)) waits)
+      (moved-go frame down refl p inside waits)
 
-  or1-fits : Fit (or1Step row (numbers.world u)) (stepOn O.Or1 here there)
+  or1-fits : Fit (or1Step row) (stepOn O.Or1 here there)
   unfolding or1Step stepOn
   or1-fits =
-      only-or (λ l r. Fits (move.Go (phase.Goal (numbers.lab l u)))) (λ g h. alone here (at-u g)) (λ g h p q. goes g p) (T .means f named)
+      only-or (λ l r. Fits (move.Go l)) (λ g h. alone here (at-u g)) (λ g h p q. goes g p) (T .means f named)
 
-  or2-fits : Fit (or2Step row (numbers.world u)) (stepOn O.Or2 here there)
+  or2-fits : Fit (or2Step row) (stepOn O.Or2 here there)
   unfolding or2Step stepOn
   or2-fits =
-      only-or (λ l r. Fits (move.Go (phase.Goal (numbers.lab r u)))) (λ g h. alone here (at-u h)) (λ g h p q. goes h q) (T .means f named)
+      only-or (λ l r. Fits (move.Go r)) (λ g h. alone here (at-u h)) (λ g h p q. goes h q) (T .means f named)
 
   imp-fits : Fit (impStep row (suc m)) (stepOn O.Imp here there)
   unfolding impStep stepOn metCount chunkCount
@@ -139,7 +140,7 @@ module _ {T : Reading} {rows cl ats ch sv : List ℕ} {stack : Stack} {es : List
 
   -- The clause of a number, which is no `sf` line, in focus.
   abbrev into : L.Lab → Judged
-  into clause = Fits (move.Go (phase.Focus clause (numbers.lab f u)))
+  into clause = Fits (move.Aim (clause .form) (clause .at))
 
   abbrev aiming : ℕ → Lab → Move
   aiming q l = alone here (focus l q u [])
@@ -147,7 +148,7 @@ module _ {T : Reading} {rows cl ats ch sv : List ℕ} {stack : Stack} {es : List
   clause-fits : (i q : ℕ) → q ≡ rowAt (T .table) f .left →
       Fit (ifFound (findClause (T .table) cl ats c (record { 0 = i })) into)
       (onClause (getElem? ls i) (aiming q))
-  unfolding findClause pick ifFound onClause metCount chunkCount metIn
+  unfolding findClause pick ifFound onClause goalIn metCount chunkCount metIn
   clause-fits i q atom = by-count (leb c i) refl
     where
       number : ℕ
@@ -166,7 +167,7 @@ module _ {T : Reading} {rows cl ats ch sv : List ℕ} {stack : Stack} {es : List
       by-kind h false e =
           rw e
           (fits (alone-within frame w (focus clause q u []) (omega arith) (omega (arith, count, frame .room)))
-          (moved-go frame down (in-focus (known h) inside atom) waits))
+          (moved-aim frame down f refl (known h) inside atom clause waits))
 
       by-count : (t : Bool) → leb c i ≡ t →
           Fit
@@ -181,7 +182,7 @@ module _ {T : Reading} {rows cl ats ch sv : List ℕ} {stack : Stack} {es : List
           rw (clause-at i (frame .clauses) h)
           (by-kind h (eqb (rowAt (T .table) number .kind) 7) (sf-kind (T .means number (known h))))
 
-  use-fits : (i : ℕ) → Fit (useClause (T .table) cl ats c row (numbers.lab f u) (record { 0 = i })) (stepOn (O.Use i) here there)
+  use-fits : (i : ℕ) → Fit (useClause (T .table) cl ats c row (record { 0 = i })) (stepOn (O.Use i) here there)
   unfolding useClause useStep stepOn
   use-fits i =
       only-atom (λ l r. ifFound (findClause (T .table) cl ats c (record { 0 = i })) into)

@@ -1,5 +1,5 @@
--- Each of the eleven moves keeps the relation: the obligations that document 01's step puts in the current one's place are those of the
--- record after the move. (`moved-close` of specs/Moved is the eleventh.)
+-- Each of the twelve moves keeps the relation: the obligations that document 01's step puts in the current one's place are those of the
+-- record after the move. (`moved-close` of specs/Moved is the twelfth.)
 use Prim.Native.Nat.{ℕ, zero, suc, _<_, _≤_}
 use mathlib.Core.Path.{_≡_, refl, sym, ap, subst, _∙_}
 use mathlib.Core.List.{List, [], _∷_, _++_}
@@ -35,35 +35,54 @@ use Rattle.walks.specs.Moved.{moved-alone, moved-fork, rests-met}
 -- Of any phase.
 module _ {T : Reading} {rows cl ats ch sv : List ℕ} {stack : Stack} {es : List Entry} {n m c : ℕ} {ph : D.Phase} {fs : List Fact}
     {ls : List Lab} (frame : Frame T rows stack n cl ats ph m c ch sv fs ls) (down : downFrom stack n ≡ es) where
-  pub moved-go : {ph′ : D.Phase} {p′ : Phase} {waiting : List Obligation} → Stands T (suc m) ch ph′ p′ →
-      Waits T rows cl ats (suc m) c es (metIn (seq T (suc m) fs ls) p′ ++ waiting) →
-      Related T (moved (stateOf rows stack (suc n) cl ats) (move.Go ph′)) (ob (seq T (suc m) fs ls) p′ ∷ waiting)
-  unfolding changeOf chunksAfter rowsAfter
-  moved-go {ph′} stands waits =
+  -- The clauses, which such a move leaves, and what it writes past them.
+  abbrev noClause : Clauses T (set cl c (topChunk (stack .chunks) n ph)) (set ats c (goalIn ph .at .0)) c ls
+  noClause =
       let low : c ≤ c = omega arith in
-      let x : ℕ = topChunk (stack .chunks) n ph in
-      moved-alone frame down (move.Go ph′) refl refl (wrote-none frame) (λ next kept. refl)
-      (clauses-set c x (goalIn ph .at .0) low (frame .clauses)) (frame .kept) stands
-      (waits-set c x (goalIn ph .at .0) low waits)
+      clauses-set c (topChunk (stack .chunks) n ph) (goalIn ph .at .0) low (frame .clauses)
 
-  pub moved-both : {f h u : ℕ} {waiting : List Obligation} → f < T .formulas → h < T .formulas → u < suc m → suc n < 256 →
+  abbrev noWrite : {os : List Obligation} → Waits T rows cl ats (suc m) c es os →
+      Waits T rows (set cl c (topChunk (stack .chunks) n ph)) (set ats c (goalIn ph .at .0)) (suc m) c es os
+  noWrite waits =
+      let low : c ≤ c = omega arith in
+      waits-set c (topChunk (stack .chunks) n ph) (goalIn ph .at .0) low waits
+
+  pub moved-go : {g t u : ℕ} {waiting : List Obligation} → goalIn ph ≡ numbers.lab t u → g < T .formulas → u < suc m →
       Waits T rows cl ats (suc m) c es waiting →
-      Related T (moved (stateOf rows stack (suc n) cl ats) (move.Both (numbers.lab f u) (numbers.lab h u)))
-      (ob (seq T (suc m) fs ls) (goal (lab (T .tree f) u)) ∷ ob (seq T (suc m) fs ls) (goal (lab (T .tree h) u)) ∷ waiting)
-  unfolding changeOf chunksAfter rowsAfter metIn
-  moved-both {f} {h} {u} p q inside room waits =
-      moved-fork frame down (move.Both (numbers.lab f u) (numbers.lab h u)) refl refl (wrote-none frame) refl (λ next kept. refl) room
-      (at-rest (at-goal p inside)) (at-goal q inside) waits refl
+      Related T (moved (stateOf rows stack (suc n) cl ats) (move.Go g)) (ob (seq T (suc m) fs ls) (goal (lab (T .tree g) u)) ∷ waiting)
+  unfolding changeOf chunksAfter rowsAfter numbers.here metIn
+  moved-go {g} {t} {u} at p inside waits =
+      moved-alone frame down (move.Go g) {ph′ = phase.Goal (numbers.lab g u)} (rw at refl) refl (wrote-none frame) (λ next kept. refl)
+      noClause (frame .kept) (at-rest (at-goal p inside)) (noWrite waits)
 
-  pub moved-meet : {g h v w q : ℕ} {met : List Lab} {waiting : List Obligation} (t : ℕ) → g < T .formulas → h < T .formulas → v < suc m →
-      w < suc m → q ≡ rowAt (T .table) t .left → suc n < 256 → (d : Lab) →
+  pub moved-aim : {g v w q : ℕ} {met : List Lab} {waiting : List Obligation} (t : ℕ) → goalIn ph ≡ numbers.lab t w → g < T .formulas →
+      w < suc m → q ≡ rowAt (T .table) t .left → (d : Lab) →
       Waits T rows cl ats (suc m) c es (metIn (seq T (suc m) fs ls) (focus d q w met) ++ waiting) →
-      Related T
-      (moved (stateOf rows stack (suc n) cl ats) (move.Meet (numbers.lab g v) (phase.Focus (numbers.lab h v) (numbers.lab t w))))
+      Related T (moved (stateOf rows stack (suc n) cl ats) (move.Aim g (numbers.world v)))
+      (ob (seq T (suc m) fs ls) (focus (lab (T .tree g) v) q w met) ∷ waiting)
+  unfolding changeOf chunksAfter rowsAfter numbers.aimed metIn
+  moved-aim {g} {v} {w} t at p aimed same d waits =
+      moved-alone frame down (move.Aim g (numbers.world v)) {ph′ = phase.Focus (numbers.lab g v) (numbers.lab t w)} (rw at refl) refl
+      (wrote-none frame) (λ next kept. refl) noClause (frame .kept) (in-focus p aimed same) (noWrite waits)
+
+  pub moved-both : {f h t u : ℕ} {waiting : List Obligation} → goalIn ph ≡ numbers.lab t u → f < T .formulas → h < T .formulas →
+      u < suc m → suc n < 256 → Waits T rows cl ats (suc m) c es waiting →
+      Related T (moved (stateOf rows stack (suc n) cl ats) (move.Both f h))
+      (ob (seq T (suc m) fs ls) (goal (lab (T .tree f) u)) ∷ ob (seq T (suc m) fs ls) (goal (lab (T .tree h) u)) ∷ waiting)
+  unfolding changeOf chunksAfter rowsAfter numbers.here metIn
+  moved-both {f} {h} {t} {u} at p q inside room waits =
+      moved-fork frame down (move.Both f h) {phu = phase.Goal (numbers.lab f u)} {phl = phase.Goal (numbers.lab h u)} (rw at refl) refl
+      (wrote-none frame) refl (λ next kept. refl) room (at-rest (at-goal p inside)) (at-goal q inside) waits refl
+
+  pub moved-meet : {g h v w q : ℕ} {met : List Lab} {waiting : List Obligation} (t : ℕ) → goalIn ph ≡ numbers.lab t w → g < T .formulas →
+      h < T .formulas → v < suc m → w < suc m → q ≡ rowAt (T .table) t .left → suc n < 256 → (d : Lab) →
+      Waits T rows cl ats (suc m) c es (metIn (seq T (suc m) fs ls) (focus d q w met) ++ waiting) →
+      Related T (moved (stateOf rows stack (suc n) cl ats) (move.Meet g h (numbers.world v)))
       (ob (seq T (suc m) fs ls) (focus (lab (T .tree h) v) q w (lab (T .tree g) v ∷ met)) ∷ waiting)
-  unfolding changeOf chunksAfter rowsAfter metIn
-  moved-meet {g} {h} {v} {w} t p r inside aimed same room d waits =
-      moved-fork frame down (move.Meet (numbers.lab g v) (phase.Focus (numbers.lab h v) (numbers.lab t w))) refl refl
+  unfolding changeOf chunksAfter rowsAfter numbers.aimed metIn
+  moved-meet {g} {h} {v} {w} t at p r inside aimed same room d waits =
+      moved-fork frame down (move.Meet g h (numbers.world v)) {phu = phase.Focus (numbers.lab h v) (numbers.lab t w)}
+      {phl = phase.Goal (numbers.lab g v)} (rw at refl) refl
       (wrote-none frame) refl (λ next kept. refl) room (in-focus r aimed same) (at-goal p inside) waits refl
 
 -- Of a goal: a new world.

@@ -3,6 +3,9 @@ use borrow.Author.Needs.{needs}
 use Rattle.machine.proofs.changes.after_go.Statement.{statement}
 use Rattle.machine.proofs.changes.after_go.Tie as tie
 
+goal-here-requires : tie.Need-goal-here-requires
+goal-here-requires c κs = search needs
+
 with-phase-requires : tie.Need-with-phase-requires
 with-phase-requires c κs = search needs
 
@@ -13,4 +16,5 @@ returns : tie.Need-returns
 returns c = cc
 
 pub after-go-spec : {M : Type 1} → statement M
-after-go-spec = tie.close (tie.spec with-phase-requires only-one-requires returns)
+after-go-spec =
+    tie.close (tie.spec goal-here-requires with-phase-requires only-one-requires returns)

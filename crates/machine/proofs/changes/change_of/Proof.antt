@@ -20,30 +20,36 @@ after-go-requires c κs = search needs
 enum-known-m-2 : tie.Need-enum-known-m-2
 enum-known-m-2 c = search needs
 
-after-two-requires : tie.Need-after-two-requires
-unfolding room
-after-two-requires c κs = rw (c .before .m2 .given .1) at (c .before .before .before .pre)
+after-aim-requires : tie.Need-after-aim-requires
+after-aim-requires c κs = search needs
 
 enum-known-m-3 : tie.Need-enum-known-m-3
 enum-known-m-3 c = search needs
 
-after-two-requires-2 : tie.Need-after-two-requires-2
+after-both-requires : tie.Need-after-both-requires
 unfolding room
-after-two-requires-2 c κs = rw (c .before .m3 .given .1) at (c .before .before .before .pre)
+after-both-requires c κs = rw (c .before .m3 .given .1) at (c .before .before .before .pre)
 
 enum-known-m-4 : tie.Need-enum-known-m-4
 enum-known-m-4 c = search needs
 
-after-less-requires : tie.Need-after-less-requires
+after-meet-requires : tie.Need-after-meet-requires
 unfolding room
-after-less-requires c κs = rw (c .before .m4 .given .1) at (c .before .before .before .pre)
+after-meet-requires c κs = rw (c .before .m4 .given .1) at (c .before .before .before .pre)
 
 enum-known-m-5 : tie.Need-enum-known-m-5
 enum-known-m-5 c = search needs
 
+after-less-requires : tie.Need-after-less-requires
+unfolding room
+after-less-requires c κs = rw (c .before .m5 .given .1) at (c .before .before .before .pre)
+
+enum-known-m-6 : tie.Need-enum-known-m-6
+enum-known-m-6 c = search needs
+
 after-speak-requires : tie.Need-after-speak-requires
 unfolding room
-after-speak-requires c κs = rw (c .before .m5 .given .1) at (c .before .before .before .pre)
+after-speak-requires c κs = rw (c .before .m6 .given .1) at (c .before .before .before .pre)
 
 enum-told-2 : tie.Need-enum-told-2
 enum-told-2 c = search needs
@@ -88,39 +94,43 @@ returns-2 c = rw (c .before .before .m .given .1) (c .after-go .ensures)
 
 returns-3 : tie.Need-returns-3
 unfolding changeOf
-returns-3 c = rw (c .before .before .m2 .given .1) (c .after-two .ensures)
+returns-3 c = rw (c .before .before .m2 .given .1) (c .after-aim .ensures)
 
 returns-4 : tie.Need-returns-4
 unfolding changeOf
-returns-4 c = rw (c .before .before .m3 .given .1) (c .after-two2 .ensures)
+returns-4 c = rw (c .before .before .m3 .given .1) (c .after-both .ensures)
 
 returns-5 : tie.Need-returns-5
 unfolding changeOf
-returns-5 c = rw (c .before .before .m4 .given .1) (c .after-less .ensures)
+returns-5 c = rw (c .before .before .m4 .given .1) (c .after-meet .ensures)
 
 returns-6 : tie.Need-returns-6
 unfolding changeOf
-returns-6 c = rw (c .before .before .m5 .given .1) (c .after-speak .ensures)
+returns-6 c = rw (c .before .before .m5 .given .1) (c .after-less .ensures)
 
 returns-7 : tie.Need-returns-7
 unfolding changeOf
-returns-7 c = rw (c .before .enum-told2 .given .1) (c .after-push .ensures)
+returns-7 c = rw (c .before .before .m6 .given .1) (c .after-speak .ensures)
 
 returns-8 : tie.Need-returns-8
 unfolding changeOf
-returns-8 c = rw (c .before .enum-told3 .given .1) (c .after-drop .ensures)
+returns-8 c = rw (c .before .enum-told2 .given .1) (c .after-push .ensures)
 
 returns-9 : tie.Need-returns-9
 unfolding changeOf
-returns-9 c = rw (c .before .enum-told4 .given .1) (c .after-drop2 .ensures)
+returns-9 c = rw (c .before .enum-told3 .given .1) (c .after-drop .ensures)
 
 returns-10 : tie.Need-returns-10
 unfolding changeOf
-returns-10 c = rw (c .before .enum-told5 .given .1) (c .after-split .ensures)
+returns-10 c = rw (c .before .enum-told4 .given .1) (c .after-drop2 .ensures)
 
 returns-11 : tie.Need-returns-11
 unfolding changeOf
-returns-11 c = rw (c .before .enum-told6 .given .1) (c .fork-to .ensures)
+returns-11 c = rw (c .before .enum-told5 .given .1) (c .after-split .ensures)
+
+returns-12 : tie.Need-returns-12
+unfolding changeOf
+returns-12 c = rw (c .before .enum-told6 .given .1) (c .fork-to .ensures)
 
 pub change-of-spec : {M : Type 1} → statement M
 change-of-spec =
@@ -131,12 +141,14 @@ change-of-spec =
     enum-known-m
     after-go-requires
     enum-known-m-2
-    after-two-requires
+    after-aim-requires
     enum-known-m-3
-    after-two-requires-2
+    after-both-requires
     enum-known-m-4
-    after-less-requires
+    after-meet-requires
     enum-known-m-5
+    after-less-requires
+    enum-known-m-6
     after-speak-requires
     enum-told-2
     after-push-requires
@@ -158,4 +170,5 @@ change-of-spec =
     returns-8
     returns-9
     returns-10
-    returns-11)
+    returns-11
+    returns-12)

@@ -19,14 +19,14 @@ enum-told-3 c = search needs
 enum-told-4 : tie.Need-enum-told-4
 enum-told-4 c = search needs
 
+enum-told-5 : tie.Need-enum-told-5
+enum-told-5 c = search needs
+
 enum-known-m : tie.Need-enum-known-m
 enum-known-m c = search needs
 
 put-chunk-requires : tie.Need-put-chunk-requires
 put-chunk-requires c κs = search needs
-
-enum-told-5 : tie.Need-enum-told-5
-enum-told-5 c = search needs
 
 enum-told-6 : tie.Need-enum-told-6
 enum-told-6 c = search needs
@@ -36,6 +36,9 @@ enum-told-7 c = search needs
 
 enum-told-8 : tie.Need-enum-told-8
 enum-told-8 c = search needs
+
+enum-told-9 : tie.Need-enum-told-9
+enum-told-9 c = search needs
 
 enum-known-m-2 : tie.Need-enum-known-m-2
 enum-known-m-2 c = search needs
@@ -67,11 +70,11 @@ returns-4 c = rw (c .enum-told4 .given .1)
 
 returns-5 : tie.Need-returns-5
 unfolding chunksAfter
-returns-5 c = rw (c .before .before .before .m .given .1) (c .put-chunk .ensures)
+returns-5 c = rw (c .enum-told5 .given .1)
 
 returns-6 : tie.Need-returns-6
 unfolding chunksAfter
-returns-6 c = rw (c .enum-told5 .given .1)
+returns-6 c = rw (c .before .before .before .m .given .1) (c .put-chunk .ensures)
 
 returns-7 : tie.Need-returns-7
 unfolding chunksAfter
@@ -87,11 +90,15 @@ returns-9 c = rw (c .enum-told8 .given .1)
 
 returns-10 : tie.Need-returns-10
 unfolding chunksAfter
-returns-10 c = rw (c .before .before .before .m2 .given .1, ← c .before .before .before .before .before .chunk-count .ensures) (c .split-top .ensures)
+returns-10 c = rw (c .enum-told9 .given .1)
 
 returns-11 : tie.Need-returns-11
 unfolding chunksAfter
-returns-11 c = rw (c .before .before .before .m3 .given .1, ← c .before .before .before .before .before .chunk-count .ensures) (c .case-top .ensures)
+returns-11 c = rw (c .before .before .before .m2 .given .1, ← c .before .before .before .before .before .chunk-count .ensures) (c .split-top .ensures)
+
+returns-12 : tie.Need-returns-12
+unfolding chunksAfter
+returns-12 c = rw (c .before .before .before .m3 .given .1, ← c .before .before .before .before .before .chunk-count .ensures) (c .case-top .ensures)
 
 pub move-chunks-spec : {M : Type 1} → statement M
 move-chunks-spec =
@@ -102,12 +109,13 @@ move-chunks-spec =
     enum-told-2
     enum-told-3
     enum-told-4
+    enum-told-5
     enum-known-m
     put-chunk-requires
-    enum-told-5
     enum-told-6
     enum-told-7
     enum-told-8
+    enum-told-9
     enum-known-m-2
     split-top-requires
     enum-known-m-3
@@ -122,4 +130,5 @@ move-chunks-spec =
     returns-8
     returns-9
     returns-10
-    returns-11)
+    returns-11
+    returns-12)

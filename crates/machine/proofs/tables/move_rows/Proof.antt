@@ -22,6 +22,9 @@ enum-told-4 c = search needs
 enum-told-5 : tie.Need-enum-told-5
 enum-told-5 c = search needs
 
+enum-told-6 : tie.Need-enum-told-6
+enum-told-6 c = search needs
+
 grow-less-requires : tie.Need-grow-less-requires
 grow-less-requires c κs = search needs
 
@@ -31,11 +34,11 @@ enum-known-m c = search needs
 grow-speak-requires : tie.Need-grow-speak-requires
 grow-speak-requires c κs = search needs
 
-enum-told-6 : tie.Need-enum-told-6
-enum-told-6 c = search needs
-
 enum-told-7 : tie.Need-enum-told-7
 enum-told-7 c = search needs
+
+enum-told-8 : tie.Need-enum-told-8
+enum-told-8 c = search needs
 
 enum-known-m-2 : tie.Need-enum-known-m-2
 enum-known-m-2 c = search needs
@@ -43,11 +46,11 @@ enum-known-m-2 c = search needs
 note-newest-requires : tie.Need-note-newest-requires
 note-newest-requires c κs = search needs
 
-enum-told-8 : tie.Need-enum-told-8
-enum-told-8 c = search needs
-
 enum-told-9 : tie.Need-enum-told-9
 enum-told-9 c = search needs
+
+enum-told-10 : tie.Need-enum-told-10
+enum-told-10 c = search needs
 
 returns : tie.Need-returns
 unfolding rowsAfter
@@ -67,15 +70,15 @@ returns-4 c = rw (c .enum-told4 .given .1)
 
 returns-5 : tie.Need-returns-5
 unfolding rowsAfter
-returns-5 c = rw (c .before .before .enum-told5 .given .1) (c .grow-less .ensures)
+returns-5 c = rw (c .enum-told5 .given .1)
 
 returns-6 : tie.Need-returns-6
 unfolding rowsAfter
-returns-6 c = rw (c .before .before .before .m .given .1) (c .grow-speak .ensures)
+returns-6 c = rw (c .before .before .enum-told6 .given .1) (c .grow-less .ensures)
 
 returns-7 : tie.Need-returns-7
 unfolding rowsAfter
-returns-7 c = rw (c .enum-told6 .given .1)
+returns-7 c = rw (c .before .before .before .m .given .1) (c .grow-speak .ensures)
 
 returns-8 : tie.Need-returns-8
 unfolding rowsAfter
@@ -83,15 +86,19 @@ returns-8 c = rw (c .enum-told7 .given .1)
 
 returns-9 : tie.Need-returns-9
 unfolding rowsAfter
-returns-9 c = rw (c .before .before .before .m2 .given .1) (c .note-newest .ensures)
+returns-9 c = rw (c .enum-told8 .given .1)
 
 returns-10 : tie.Need-returns-10
 unfolding rowsAfter
-returns-10 c = rw (c .enum-told8 .given .1)
+returns-10 c = rw (c .before .before .before .m2 .given .1) (c .note-newest .ensures)
 
 returns-11 : tie.Need-returns-11
 unfolding rowsAfter
 returns-11 c = rw (c .enum-told9 .given .1)
+
+returns-12 : tie.Need-returns-12
+unfolding rowsAfter
+returns-12 c = rw (c .enum-told10 .given .1)
 
 pub move-rows-spec : {M : Type 1} → statement M
 move-rows-spec =
@@ -103,15 +110,16 @@ move-rows-spec =
     enum-told-3
     enum-told-4
     enum-told-5
+    enum-told-6
     grow-less-requires
     enum-known-m
     grow-speak-requires
-    enum-told-6
     enum-told-7
+    enum-told-8
     enum-known-m-2
     note-newest-requires
-    enum-told-8
     enum-told-9
+    enum-told-10
     returns
     returns-2
     returns-3
@@ -122,4 +130,5 @@ move-rows-spec =
     returns-8
     returns-9
     returns-10
-    returns-11)
+    returns-11
+    returns-12)

@@ -21,7 +21,7 @@ returns-2 c = rw (c .enum-told .given .1) (search tests)
 
 returns-3 : tie.Need-returns-3
 unfolding useStep ifFound
-returns-3 c = rw (c .before .found .given .1) (search tests)
+returns-3 c = rw (c .before .before .found .given .1) (search tests)
 
 pub use-step-spec : {M : Type 1} → statement M
 use-step-spec = tie.close (tie.spec returns enum-known-found enum-told returns-2 returns-3)
