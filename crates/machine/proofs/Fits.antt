@@ -6,6 +6,7 @@ use mathlib.Core.Bool.{Bool, true, false}
 use mathlib.Core.List.{List}
 use lib.Dec.{leb}
 use borrow.Author.Tests.{leb-false}
+use Rattle.scope.specs.Limits.{mostWorlds, mostClauses, mostOpen, mostChunks}
 use Rattle.steps.specs.declared.World.{World}
 use Rattle.steps.specs.declared.Principal.{Principal}
 use Rattle.moves.specs.declared.Row.{Row}
@@ -77,7 +78,7 @@ module _ (w c k n : ℕ) where
 
   on-and : (r : Row) → fitsIn (andStep r n) w c k n
   unfolding andStep room
-  on-and r = test _ _ _ (limit 256 n (move.Both _ _) (λ h. h)) (no-move 7)
+  on-and r = test _ _ _ (limit mostOpen n (move.Both _ _) (λ h. h)) (no-move 7)
 
   on-or1 : (r : Row) → fitsIn (or1Step r) w c k n
   unfolding or1Step
@@ -89,11 +90,11 @@ module _ (w c k n : ℕ) where
 
   on-imp : (r : Row) → fitsIn (impStep r w) w c k n
   unfolding impStep room
-  on-imp r = test _ _ _ (limit 32 w (move.Less _ _) (λ h. h)) (no-move 7)
+  on-imp r = test _ _ _ (limit mostWorlds w (move.Less _ _) (λ h. h)) (no-move 7)
 
   on-says : (r : Row) → fitsIn (saysStep r w) w c k n
   unfolding saysStep room
-  on-says r = test _ _ _ (limit 32 w (move.Speak _ _) (λ h. h)) (no-move 7)
+  on-says r = test _ _ _ (limit mostWorlds w (move.Speak _ _) (λ h. h)) (no-move 7)
 
   on-top : (r : Row) → fitsIn (topStep r) w c k n
   unfolding topStep
@@ -141,7 +142,7 @@ module _ (w c k n : ℕ) where
   on-focus forms rows r part target (step.Use v) = no-move 7
   on-focus forms rows r part target step.Left = test _ _ _ (aims _ _) (no-move 7)
   on-focus forms rows r part target step.Right = test _ _ _ (aims _ _) (no-move 7)
-  on-focus forms rows r part target (step.To v) = test _ _ _ (test _ _ _ (no-move 8) (test _ _ _ (limit 256 n _ (λ h. h)) (no-move 9))) (test _ _ _ (test _ _ _ (no-move 8) (test _ _ _ (aims _ _) (no-move 9))) (no-move 7))
+  on-focus forms rows r part target (step.To v) = test _ _ _ (test _ _ _ (no-move 8) (test _ _ _ (limit mostOpen n _ (λ h. h)) (no-move 9))) (test _ _ _ (test _ _ _ (no-move 8) (test _ _ _ (aims _ _) (no-move 9))) (no-move 7))
   on-focus forms rows r part target step.Hit = test _ _ _ (test _ _ _ (test _ _ _ closes (no-move 9)) (no-move 9)) (no-move 7)
   on-focus forms rows r part target step.Push = no-move 7
   on-focus forms rows r part target step.Split = no-move 7
@@ -164,9 +165,9 @@ module _ (w c k n : ℕ) where
   on-chunk r step.Right = no-move 7
   on-chunk r (step.To v) = no-move 7
   on-chunk r step.Hit = no-move 7
-  on-chunk r step.Push = test _ _ _ (limit 256 c _ (λ h. h)) (no-move 7)
-  on-chunk r step.Split = test _ _ _ (limit 16 k _ (λ h. h)) (no-move 7)
-  on-chunk r step.Case = test _ _ _ (limit 256 n _ (λ h. h)) (no-move 7)
+  on-chunk r step.Push = test _ _ _ (limit mostClauses c _ (λ h. h)) (no-move 7)
+  on-chunk r step.Split = test _ _ _ (limit mostChunks k _ (λ h. h)) (no-move 7)
+  on-chunk r step.Case = test _ _ _ (limit mostOpen n _ (λ h. h)) (no-move 7)
   on-chunk r step.Absurd = test _ _ _ closes (no-move 7)
   on-chunk r step.Drop = test _ _ _ drops (no-move 7)
   on-chunk r step.Note = test _ _ _ (notes _ _) (no-move 7)

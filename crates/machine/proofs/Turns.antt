@@ -6,6 +6,7 @@ use native.Mathlib.Omega.{arith}
 use lib.ListN.{getD, set, length, replicate}
 use lib.Dec.{eqb}
 use borrow.Author.Tests.{eq-eqb, ne-eqb}
+use Rattle.scope.specs.Limits.{mostOpen}
 use Rattle.facts.specs.Rows.{noted, rootRows}
 use Rattle.steps.specs.declared.Step.{Step}
 use Rattle.steps.specs.Steps.{stepFrom}
@@ -173,7 +174,7 @@ unfolding moved
 moved-is s m o next top made rows chunks saved clauses ats w =
     rw (w .facts, w .held, w .kept, w .change, w .clause, w .world, w .topmost, w .under, w .this) refl
 
-room-after : (m : Move) (o : Obligation) (w c k opened : ℕ) → room m w c k opened → opened ≤ 256 → changeOf m o opened .opened ≤ 256
+room-after : (m : Move) (o : Obligation) (w c k opened : ℕ) → room m w c k opened → opened ≤ mostOpen → changeOf m o opened .opened ≤ mostOpen
 unfolding room changeOf
 room-after move.Close o w c k opened r h = omega arith
 room-after (move.Go f) o w c k opened r h = h
@@ -189,7 +190,7 @@ room-after (move.Split f g) o w c k opened r h = h
 room-after (move.Case f g) o w c k opened r h = omega arith
 
 pub made-room : (m : Move) (o : Obligation) (w c k opened : ℕ) (made : Change) → made ≡ changeOf m o opened →
-    room m w c k opened → opened ≤ 256 → made .opened ≤ 256
+    room m w c k opened → opened ≤ mostOpen → made .opened ≤ mostOpen
 made-room m o w c k opened made e r h = rw e (room-after m o w c k opened r h)
 
 -- A whole turn: what is left of the walk, from the state that the turn has written.

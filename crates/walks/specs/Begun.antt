@@ -10,6 +10,7 @@ use lib.ListN.{length, getD, set, drop, replicate, length-set, length-replicate,
 use lib.Seq.{getD-set-same, getD-set-other, drop-cons, drop-length, ext-getD}
 use Rattle.scope.specs.Form.{Form}
 use Rattle.scope.specs.Facts.{Fact}
+use Rattle.scope.specs.Limits.{mostClauses}
 use Rattle.scope.specs.Obligation.{Lab, lab, factOf, rootFacts, start}
 use Rattle.facts.specs.Rows.{rootRows, noted}
 use Rattle.facts.specs.Kept.{Kept}
@@ -58,7 +59,7 @@ put-at lines (suc n) i cl h l =
 abbrev zeros : List ℕ
 zeros = replicate 257 0
 
-module _ (T : Reading) (lines nums : List ℕ) (count : ℕ) (long : length nums ≡ count) (few : count ≤ 256)
+module _ (T : Reading) (lines nums : List ℕ) (count : ℕ) (long : length nums ≡ count) (few : count ≤ mostClauses)
     (same : (i : ℕ) → i < count → getD nums i 0 ≡ getD lines i 0) (known : (i : ℕ) → i < count → getD lines i 0 < T .formulas) where
   abbrev policy : List Form
   policy = map (T .tree) nums

@@ -10,6 +10,7 @@ use Rattle.scope.specs.Form.{Form}
 use Rattle.scope.specs.Facts as Fact
 use Rattle.scope.specs.Facts.{Fact}
 use Rattle.scope.specs.Obligation as O
+use Rattle.scope.specs.Limits.{mostWorlds, mostClauses, mostOpen, mostChunks}
 use Rattle.scope.specs.Obligation.{Lab, lab, Sequent, withFact, withClause, Phase, chunks, behind, Obligation, ob}
 use Rattle.scope.specs.Room.{chunkCount, metCount, openCount, within}
 use Rattle.scope.specs.Walk.{Move, onto, alone, stepOn}
@@ -48,7 +49,7 @@ behind-met (c ∷ cs) g = refl
 
 module _ {T : Reading} {rows cl ats ch sv : List ℕ} {stack : Stack} {es : List Entry} {n m c t u i : ℕ} {fs : List Fact}
     {ls : List Lab} (frame : Frame T rows stack n cl ats (phase.Chunks (numbers.lab t u) (suc i)) m c ch sv fs ls)
-    (down : downFrom stack n ≡ es) (named : t < T .formulas) (newest : suc u ≡ suc m) (few : i < 16)
+    (down : downFrom stack n ≡ es) (named : t < T .formulas) (newest : suc u ≡ suc m) (few : i < mostChunks)
     (known : Below (T .formulas) (suc i) ch) {waiting : List Obligation} (waits : Waits T rows cl ats (suc m) c es waiting) where
   abbrev here : Sequent
   here = seq T (suc m) fs ls
@@ -81,7 +82,7 @@ module _ {T : Reading} {rows cl ats ch sv : List ℕ} {stack : Stack} {es : List
   means = let last : i < suc i = omega arith in T .means topmost (known .each i last)
 
   -- Without the topmost chunk, in a sequent within the limits.
-  behind-within : (s : Sequent) → s .worlds ≤ 32 → length (s .clauses) ≤ 256 → within w (ob s (behind rest aim) ∷ []) ≡ true
+  behind-within : (s : Sequent) → s .worlds ≤ mostWorlds → length (s .clauses) ≤ mostClauses → within w (ob s (behind rest aim) ∷ []) ≡ true
   behind-within s h g =
       one-within w s (behind rest aim)
       (record { worlds = h; clauses = g; chunks = omega (arith, behind-chunks rest aim, chunks-length (T .tree) i ch) })
@@ -93,7 +94,7 @@ module _ {T : Reading} {rows cl ats ch sv : List ℕ} {stack : Stack} {es : List
       let longer : length (ls ++ (lab (T .tree topmost) u ∷ [])) ≡ c + 1 =
       length-append ls (lab (T .tree topmost) u ∷ []) ∙ ap (λ (k : ℕ). k + 1) (clauses-length (frame .clauses)) in
       only-pushed
-      (if-room 256 c
+      (if-room mostClauses c
       (λ full. no-room (clauses-over w (withClause here (lab (T .tree topmost) u)) (behind rest aim) (omega arith)))
       (λ free.
       fits (behind-within (withClause here (lab (T .tree topmost) u)) (frame .kept .worlds) (omega arith))
@@ -104,9 +105,9 @@ module _ {T : Reading} {rows cl ats ch sv : List ℕ} {stack : Stack} {es : List
   unfolding splitStep stepOn chunkCount metCount
   split-fits =
       let long : length rest ≡ i = chunks-length (T .tree) i ch in
-      only-and (λ l r. pick (leb 16 (suc i)) (No 10) (Fits (move.Split l r))) (λ h k. alone here (chunks h (k ∷ rest) aim))
+      only-and (λ l r. pick (leb mostChunks (suc i)) (No 10) (Fits (move.Split l r))) (λ h k. alone here (chunks h (k ∷ rest) aim))
       (λ h k p q.
-      if-room 16 (suc i)
+      if-room mostChunks (suc i)
       (λ full. no-room (chunks-over w here (chunks (T .tree h) (T .tree k ∷ rest) aim) (omega arith)))
       (λ free.
       fits (alone-within frame w (chunks (T .tree h) (T .tree k ∷ rest) aim) (omega arith) (omega (arith, count, frame .room)))
@@ -117,10 +118,10 @@ module _ {T : Reading} {rows cl ats ch sv : List ℕ} {stack : Stack} {es : List
   unfolding caseStep stepOn openCount chunkCount metCount
   case-fits =
       let long : length rest ≡ i = chunks-length (T .tree) i ch in
-      only-or (λ l r. pick (leb 256 (suc n)) (No 10) (Fits (move.Case l r)))
+      only-or (λ l r. pick (leb mostOpen (suc n)) (No 10) (Fits (move.Case l r)))
       (λ h k. onto (ob here (chunks h rest aim) ∷ ob here (chunks k rest aim) ∷ []))
       (λ h k p q.
-      if-room 256 (suc n)
+      if-room mostOpen (suc n)
       (λ full. no-room (open-over w (ob here (chunks (T .tree h) rest aim) ∷ ob here (chunks (T .tree k) rest aim) ∷ []) (omega (arith, count))))
       (λ free.
       fits

@@ -5,6 +5,7 @@ use mathlib.Core.Path.{_≡_, sym, ap, _∙_}
 use mathlib.Core.List.{List}
 use native.Mathlib.Omega.{arith}
 use lib.ListN.{length, getD, set, length-set}
+use Rattle.scope.specs.Limits.{mostOpen, mostChunks}
 use Rattle.scope.specs.Facts.{Fact}
 use Rattle.scope.specs.Obligation.{Lab}
 use Rattle.moves.specs.declared.Lab as L
@@ -69,7 +70,7 @@ module _ {T : Reading} {rows cl ats ch sv : List ℕ} {stack : Stack} {n m c : �
         here = same-block n last (same-put (suc n) (block l n) low (same-self (suc n) l)) ∙ chunks-is stack n (frame .on-top);
       }
 
-  pub case-above : (i f h : ℕ) → i < 16 → suc n < 256 →
+  pub case-above : (i f h : ℕ) → i < mostChunks → suc n < mostOpen →
       block (set (set (putBlock (stack .chunks) (suc n) (block (stack .chunks) n)) (n * 16 + i) h) (suc n * 16 + i) f) (suc n) ≡ set ch i f
   case-above i f h few room =
       let l : List ℕ = stack .chunks in

@@ -12,6 +12,7 @@ use lib.Seq.{getD-at}
 use Rattle.scope.specs.Form.{Form}
 use Rattle.scope.specs.Facts.{Fact}
 use Rattle.scope.specs.Obligation.{Lab, lab, Sequent, Phase, ob}
+use Rattle.scope.specs.Limits.{mostClauses, mostOpen, mostChunks}
 use Rattle.scope.specs.Room.{chunkCount, metCount, openCount, small, within}
 use Rattle.moves.specs.declared.Phase as D
 use Rattle.machine.specs.Machine.{Stack}
@@ -24,21 +25,21 @@ clauses-length {T} {cl} {ats} {c} k = ap length (k .are) ∙ labs-length (T .tre
 
 -- The clauses of the current sequent are few.
 pub clauses-few : {T : Reading} {rows cl ats ch sv : List ℕ} {stack : Stack} {n m c : ℕ} {ph : D.Phase} {fs : List Fact}
-    {ls : List Lab} → Frame T rows stack n cl ats ph m c ch sv fs ls → length ls ≤ 256
+    {ls : List Lab} → Frame T rows stack n cl ats ph m c ch sv fs ls → length ls ≤ mostClauses
 clauses-few frame = omega (arith, clauses-length (frame .clauses), frame .clauses .few)
 
-pub none-within : (w : ℕ) → w ≤ 256 → within w [] ≡ true
+pub none-within : (w : ℕ) → w ≤ mostOpen → within w [] ≡ true
 unfolding small openCount
 none-within w h = within-true w [] refl (omega arith)
 
 -- An obligation of another sequent.
-pub one-within : (w : ℕ) (s : Sequent) (p : Phase) → Small s p → suc (metCount p) + w ≤ 256 → within w (ob s p ∷ []) ≡ true
+pub one-within : (w : ℕ) (s : Sequent) (p : Phase) → Small s p → suc (metCount p) + w ≤ mostOpen → within w (ob s p ∷ []) ≡ true
 unfolding small openCount
 one-within w s p h g = within-true w (ob s p ∷ []) (small-more s p [] h refl) (omega arith)
 
 module _ {T : Reading} {rows cl ats ch sv : List ℕ} {stack : Stack} {n m c : ℕ} {ph : D.Phase} {fs : List Fact}
     {ls : List Lab} (frame : Frame T rows stack n cl ats ph m c ch sv fs ls) (w : ℕ) where
-  pub small-now : (p : Phase) → chunkCount p ≤ 16 → Small (seq T (suc m) fs ls) p
+  pub small-now : (p : Phase) → chunkCount p ≤ mostChunks → Small (seq T (suc m) fs ls) p
   small-now p h =
       record {
         worlds = frame .kept .worlds;
@@ -46,13 +47,13 @@ module _ {T : Reading} {rows cl ats ch sv : List ℕ} {stack : Stack} {n m c : �
         chunks = h;
       }
 
-  pub alone-within : (p : Phase) → chunkCount p ≤ 16 → suc (metCount p) + w ≤ 256 →
+  pub alone-within : (p : Phase) → chunkCount p ≤ mostChunks → suc (metCount p) + w ≤ mostOpen →
       within w (ob (seq T (suc m) fs ls) p ∷ []) ≡ true
   unfolding small openCount
   alone-within p h g =
       within-true w (ob (seq T (suc m) fs ls) p ∷ []) (small-more (seq T (suc m) fs ls) p [] (small-now p h) refl) (omega arith)
 
-  pub pair-within : (p q : Phase) → chunkCount p ≤ 16 → chunkCount q ≤ 16 → suc (metCount p) + (suc (metCount q) + w) ≤ 256 →
+  pub pair-within : (p q : Phase) → chunkCount p ≤ mostChunks → chunkCount q ≤ mostChunks → suc (metCount p) + (suc (metCount q) + w) ≤ mostOpen →
       within w (ob (seq T (suc m) fs ls) p ∷ ob (seq T (suc m) fs ls) q ∷ []) ≡ true
   unfolding small openCount
   pair-within p q h i g =

@@ -8,6 +8,7 @@ use lib.Dec.{eqb, leb, ltb}
 use lib.ListN.{length, length-append}
 use Rattle.scope.specs.Facts as Fact
 use Rattle.scope.specs.Facts.{Fact}
+use Rattle.scope.specs.Limits.{mostOpen}
 use Rattle.scope.specs.Obligation as O
 use Rattle.scope.specs.Obligation.{Lab, lab, Sequent, Phase, goal, focus, Obligation, ob}
 use Rattle.scope.specs.Room.{chunkCount, metCount, openCount, within}
@@ -84,11 +85,11 @@ module _ {T : Reading} {rows cl ats ch sv : List ℕ} {stack : Stack} {es : List
 
   -- A subgoal is met at v.
   meets : (g h v : ℕ) → g < T .formulas → h < T .formulas → v < suc m →
-      Fit (pick (leb 256 (suc n)) (No 10) (Fits (move.Meet g h (numbers.world v))))
+      Fit (pick (leb mostOpen (suc n)) (No 10) (Fits (move.Meet g h (numbers.world v))))
       (alone here (on h v (lab (T .tree g) v ∷ met)))
   unfolding goalIn openCount metCount chunkCount
   meets g h v p r inside =
-      if-room 256 (suc n)
+      if-room mostOpen (suc n)
       (λ full. no-room (open-over (length waiting) (ob here (on h v (lab (T .tree g) v ∷ met)) ∷ []) (omega (arith, count))))
       (λ free.
       fits
@@ -103,7 +104,7 @@ module _ {T : Reading} {rows cl ats ch sv : List ℕ} {stack : Stack} {es : List
       (λ l r.
       pick (leb (suc m) v) (No 8)
       (pick (told rows (Fact.le u v))
-      (pick (leb 256 (suc n)) (No 10) (Fits (move.Meet l r (numbers.world v)))) (No 9)))
+      (pick (leb mostOpen (suc n)) (No 10) (Fits (move.Meet l r (numbers.world v)))) (No 9)))
       (λ l r.
       pick (leb (suc m) v) (No 8)
       (pick (told rows (Fact.by l u v)) (Fits (move.Aim r (numbers.world v))) (No 9)))

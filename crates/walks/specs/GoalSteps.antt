@@ -11,6 +11,7 @@ use borrow.Author.Tests.{leb-true, leb-false}
 use Rattle.scope.specs.Form.{Form, isSf}
 use Rattle.scope.specs.Facts as Fact
 use Rattle.scope.specs.Facts.{Fact}
+use Rattle.scope.specs.Limits.{mostWorlds, mostOpen}
 use Rattle.scope.specs.Obligation as O
 use Rattle.scope.specs.Obligation.{Lab, lab, Sequent, withWorld, Phase, goal, chunks, focus, Obligation, ob}
 use Rattle.scope.specs.Room.{chunkCount, metCount, openCount}
@@ -68,10 +69,10 @@ module _ {T : Reading} {rows cl ats ch sv : List ℕ} {stack : Stack} {es : List
   and-fits : Fit (andStep row (suc n)) (stepOn O.And here there)
   unfolding andStep goalIn stepOn openCount metCount chunkCount
   and-fits =
-      only-and (λ l r. pick (leb 256 (suc n)) (No 10) (Fits (move.Both l r)))
+      only-and (λ l r. pick (leb mostOpen (suc n)) (No 10) (Fits (move.Both l r)))
       (λ g h. onto (ob here (at-u g) ∷ ob here (at-u h) ∷ []))
       (λ g h p q.
-      if-room 256 (suc n)
+      if-room mostOpen (suc n)
       (λ full. no-room (open-over w (ob here (at-u (T .tree g)) ∷ ob here (at-u (T .tree h)) ∷ []) (omega (arith, count))))
       (λ free. fits (pair-within frame w (at-u (T .tree g)) (at-u (T .tree h)) (omega arith) (omega arith) (omega (arith, count)))
       (moved-both frame down refl p q inside free waits)))
@@ -97,10 +98,10 @@ module _ {T : Reading} {rows cl ats ch sv : List ℕ} {stack : Stack} {es : List
   imp-fits : Fit (impStep row (suc m)) (stepOn O.Imp here there)
   unfolding impStep stepOn metCount chunkCount
   imp-fits =
-      only-imp (λ l r. pick (leb 32 (suc m)) (No 10) (Fits (move.Less l r)))
+      only-imp (λ l r. pick (leb mostWorlds (suc m)) (No 10) (Fits (move.Less l r)))
       (λ g h. alone (withWorld here (Fact.le u (suc m))) (chunks g [] (lab h (suc m))))
       (λ g h p q.
-      if-room 32 (suc m)
+      if-room mostWorlds (suc m)
       (λ full.
       no-room (worlds-over w (withWorld here (Fact.le u (suc m))) (chunks (T .tree g) [] (lab (T .tree h) (suc m))) (omega arith)))
       (λ free. fits
@@ -112,10 +113,10 @@ module _ {T : Reading} {rows cl ats ch sv : List ℕ} {stack : Stack} {es : List
   says-fits : Fit (saysStep row (suc m)) (stepOn O.Says here there)
   unfolding saysStep stepOn metCount chunkCount
   says-fits =
-      only-says (λ l r. pick (leb 32 (suc m)) (No 10) (Fits (move.Speak (principal l) r)))
+      only-says (λ l r. pick (leb mostWorlds (suc m)) (No 10) (Fits (move.Speak (principal l) r)))
       (λ a g. alone (withWorld here (Fact.by a u (suc m))) (goal (lab g (suc m))))
       (λ a g p q.
-      if-room 32 (suc m)
+      if-room mostWorlds (suc m)
       (λ full. no-room (worlds-over w (withWorld here (Fact.by a u (suc m))) (goal (lab (T .tree g) (suc m))) (omega arith)))
       (λ free. fits
       (one-within w (withWorld here (Fact.by a u (suc m))) (goal (lab (T .tree g) (suc m)))

@@ -10,6 +10,7 @@ use borrow.Author.Tests.{le-leb, lt-leb}
 use lib.ListN.{length, getD, set, replicate, length-set}
 use lib.Seq.{getD-set-same, getD-set-other}
 use Rattle.scope.specs.Facts.{Fact}
+use Rattle.scope.specs.Limits.{mostOpen}
 use Rattle.scope.specs.Obligation.{Lab, Sequent, Phase, Obligation, ob}
 use Rattle.scope.specs.Tests.{never}
 use Rattle.facts.specs.Fill.{length-fill}
@@ -128,7 +129,7 @@ module _ {T : Reading} {rows cl ats ch sv : List ℕ} {stack : Stack} {es : List
       record { lower = headOf phl (suc m) c; upper = headOf phu (suc m) c; opened = suc n + 1 } →
       chunksAfter mv (chunkCount ph) n (stack .chunks) ≡ l′ → Wrote n (stack .chunks) l′ chl → block l′ (suc n) ≡ chu →
       ((next : E.Obligation) (kept : List ℕ) → rowsAfter mv now next kept rows ≡ rows) →
-      suc n < 256 → Stands T (suc m) chu phu pu → Rests T (suc m) chl phl pl →
+      suc n < mostOpen → Stands T (suc m) chu phu pu → Rests T (suc m) chl phl pl →
       Waits T rows cl ats (suc m) c es os → metIn (seq T (suc m) fs ls) pu ++ waiting ≡ ob (seq T (suc m) fs ls) pl ∷ os →
       Related T (moved (stateOf rows stack (suc n) cl ats) mv) (ob (seq T (suc m) fs ls) pu ∷ waiting)
   unfolding downFrom
@@ -225,7 +226,7 @@ moved-close {T} {rows} {cl} {ats} {ch} {sv} {stack} {n = suc n} {m} {c} {ph} fra
     putSf rows i (sfRows r i) =
     ap (λ (x : E.Obligation). putSf rows (x .worlds - 1) (block (stack .saved) (suc (suc n) - 2))) next ∙
     ap (putSf rows (suc i - 1)) put ∙ ap (λ (k : ℕ). putSf rows k (sfRows r i)) (one-less i) in
-    let room : n < 256 = omega (arith, frame .room) in
+    let room : n < mostOpen = omega (arith, frame .room) in
     let wait : Waits T (putSf rows i (sfRows r i)) (set cl c x) (set ats c y) (suc i) d es (metIn (seq T (suc i) fs′ ls′) p ++ os) =
     rw (rests-met (seq T (suc i) fs′ ls′) rests)
     (waits-set c x y fewer (waits-rows (agree-put (suc i) i rows (sfRows r i) same) more)) in

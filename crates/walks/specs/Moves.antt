@@ -10,6 +10,7 @@ use lib.ListN.{length, getD, set, length-set}
 use lib.Seq.{getD-set-same}
 use Rattle.scope.specs.Form.{Form}
 use Rattle.scope.specs.Facts.{Fact, le, by, sf}
+use Rattle.scope.specs.Limits.{mostWorlds, mostClauses, mostOpen, mostChunks}
 use Rattle.scope.specs.Obligation.{Lab, lab, Sequent, Phase, goal, chunks, focus, behind, Obligation, ob}
 use Rattle.facts.specs.Rows.{noted}
 use Rattle.facts.specs.Kept.{Kept}
@@ -66,7 +67,7 @@ module _ {T : Reading} {rows cl ats ch sv : List ℕ} {stack : Stack} {es : List
       (wrote-none frame) (λ next kept. refl) noClause (frame .kept) (in-focus p aimed same) (noWrite waits)
 
   pub moved-both : {f h t u : ℕ} {waiting : List Obligation} → goalIn ph ≡ numbers.lab t u → f < T .formulas → h < T .formulas →
-      u < suc m → suc n < 256 → Waits T rows cl ats (suc m) c es waiting →
+      u < suc m → suc n < mostOpen → Waits T rows cl ats (suc m) c es waiting →
       Related T (moved (stateOf rows stack (suc n) cl ats) (move.Both f h))
       (ob (seq T (suc m) fs ls) (goal (lab (T .tree f) u)) ∷ ob (seq T (suc m) fs ls) (goal (lab (T .tree h) u)) ∷ waiting)
   unfolding changeOf chunksAfter rowsAfter numbers.here metIn
@@ -75,7 +76,7 @@ module _ {T : Reading} {rows cl ats ch sv : List ℕ} {stack : Stack} {es : List
       (wrote-none frame) refl (λ next kept. refl) room (at-rest (at-goal p inside)) (at-goal q inside) waits refl
 
   pub moved-meet : {g h v w q : ℕ} {met : List Lab} {waiting : List Obligation} (t : ℕ) → goalIn ph ≡ numbers.lab t w → g < T .formulas →
-      h < T .formulas → v < suc m → w < suc m → q ≡ rowAt (T .table) t .left → suc n < 256 → (d : Lab) →
+      h < T .formulas → v < suc m → w < suc m → q ≡ rowAt (T .table) t .left → suc n < mostOpen → (d : Lab) →
       Waits T rows cl ats (suc m) c es (metIn (seq T (suc m) fs ls) (focus d q w met) ++ waiting) →
       Related T (moved (stateOf rows stack (suc n) cl ats) (move.Meet g h (numbers.world v)))
       (ob (seq T (suc m) fs ls) (focus (lab (T .tree h) v) q w (lab (T .tree g) v ∷ met)) ∷ waiting)
@@ -88,7 +89,7 @@ module _ {T : Reading} {rows cl ats ch sv : List ℕ} {stack : Stack} {es : List
 -- Of a goal: a new world.
 module _ {T : Reading} {rows cl ats ch sv : List ℕ} {stack : Stack} {es : List Entry} {n m c t u : ℕ} {fs : List Fact}
     {ls : List Lab} (frame : Frame T rows stack n cl ats (phase.Goal (numbers.lab t u)) m c ch sv fs ls) (down : downFrom stack n ≡ es)
-    (inside : u < suc m) (room : suc m < 32) {waiting : List Obligation} (waits : Waits T rows cl ats (suc m) c es waiting) where
+    (inside : u < suc m) (room : suc m < mostWorlds) {waiting : List Obligation} (waits : Waits T rows cl ats (suc m) c es waiting) where
   pub moved-less : {f h : ℕ} → f < T .formulas → h < T .formulas →
       Related T (moved (stateOf rows stack (suc n) cl ats) (move.Less f h))
       (ob (seq T (suc (suc m)) (le u (suc m) ∷ fs) ls) (chunks (T .tree f) [] (lab (T .tree h) (suc m))) ∷ waiting)
@@ -129,7 +130,7 @@ module _ {T : Reading} {rows cl ats ch sv : List ℕ} {stack : Stack} {es : List
 -- Of chunks: the topmost one is number i of the array.
 module _ {T : Reading} {rows cl ats ch sv : List ℕ} {stack : Stack} {es : List Entry} {n m c t u i : ℕ} {fs : List Fact}
     {ls : List Lab} (frame : Frame T rows stack n cl ats (phase.Chunks (numbers.lab t u) (suc i)) m c ch sv fs ls)
-    (down : downFrom stack n ≡ es) (named : t < T .formulas) (newest : suc u ≡ suc m) (few : i < 16)
+    (down : downFrom stack n ≡ es) (named : t < T .formulas) (newest : suc u ≡ suc m) (few : i < mostChunks)
     (known : Below (T .formulas) (suc i) ch) {waiting : List Obligation} (waits : Waits T rows cl ats (suc m) c es waiting) where
   abbrev here : Sequent
   here = seq T (suc m) fs ls
@@ -194,7 +195,7 @@ module _ {T : Reading} {rows cl ats ch sv : List ℕ} {stack : Stack} {es : List
       (waits-on (seq T (suc m) (sf u a b ∷ fs) ls) (behind rest aim) rests
       (waits-set c x u low (waits-rows (agree-note (suc m) m a b rows old) waits)))
 
-  pub moved-push : c < 256 →
+  pub moved-push : c < mostClauses →
       Related T (moved now move.Push)
       (ob (seq T (suc m) fs (ls ++ (lab (T .tree (getD ch i 0)) u ∷ []))) (behind rest aim) ∷ waiting)
   unfolding changeOf chunksAfter rowsAfter numbers.popped numbers.chunkCount goalIn
@@ -249,7 +250,7 @@ module _ {T : Reading} {rows cl ats ch sv : List ℕ} {stack : Stack} {es : List
       chunks-are i (set ch i f) (T .tree f) rest (ap (T .tree) (getD-set-same ch i f 0 long)) (chunks-set (T .tree) i i f ch over)
       (at-chunks named newest few (below-more f long p (below-less less known)))
 
-  pub moved-case : {f h : ℕ} → f < T .formulas → h < T .formulas → suc n < 256 →
+  pub moved-case : {f h : ℕ} → f < T .formulas → h < T .formulas → suc n < mostOpen →
       Related T (moved now (move.Case f h)) (ob here (chunks (T .tree f) rest aim) ∷ ob here (chunks (T .tree h) rest aim) ∷ waiting)
   unfolding changeOf chunksAfter caseChunks rowsAfter numbers.chunkCount metIn
   moved-case {f} {h} p q room =

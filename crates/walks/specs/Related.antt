@@ -7,6 +7,7 @@ use mathlib.Core.List.{List, [], _∷_, _++_, map}
 use lib.ListN.{length, getD}
 use Rattle.scope.specs.Form.{Form}
 use Rattle.scope.specs.Facts.{Fact}
+use Rattle.scope.specs.Limits.{mostClauses, mostOpen, mostChunks}
 use Rattle.scope.specs.Obligation.{Lab, lab, Sequent, Phase, goal, chunks, focus, Obligation, ob}
 use Rattle.facts.specs.Rows.{sfRows}
 use Rattle.facts.specs.Kept.{Kept, Agree}
@@ -67,7 +68,7 @@ pub record Below (F n : ℕ) (l : List ℕ) : Type 0 where
 -- A phase without focus. Chunks are only ever at the newest world.
 pub data Rests (T : Reading) (n : ℕ) (ch : List ℕ) : D.Phase → Phase → Type 0 where
   at-goal : {f u : ℕ} → f < T .formulas → u < n → Rests T n ch (phase.Goal (numbers.lab f u)) (goal (lab (T .tree f) u))
-  at-chunks : {f u m : ℕ} → f < T .formulas → suc u ≡ n → m < 16 → Below (T .formulas) (suc m) ch →
+  at-chunks : {f u m : ℕ} → f < T .formulas → suc u ≡ n → m < mostChunks → Below (T .formulas) (suc m) ch →
       Rests T n ch (phase.Chunks (numbers.lab f u) (suc m))
       (chunks (T .tree (getD ch m 0)) (chunksOf (T .tree) m ch) (lab (T .tree f) u))
 
@@ -80,7 +81,7 @@ pub data Stands (T : Reading) (n : ℕ) (ch : List ℕ) : D.Phase → Phase → 
 pub record Clauses (T : Reading) (cl ats : List ℕ) (c : ℕ) (ls : List Lab) : Type 0 where
   pub are : ls ≡ labs (T .tree) c cl ats
   pub known : Below (T .formulas) c cl
-  pub few : c ≤ 256
+  pub few : c ≤ mostClauses
 
 abbrev pub seq : Reading → ℕ → List Fact → List Lab → Sequent
 seq T n fs ls = record { principals = T .principals; worlds = n; facts = fs; clauses = ls }
@@ -106,7 +107,7 @@ pub record Frame (T : Reading) (rows : List ℕ) (stack : Stack) (n : ℕ) (cl a
   pub stack-size : Sized stack
   pub cl-size : length cl ≡ 257
   pub ats-size : length ats ≡ 257
-  pub room : n < 256
+  pub room : n < mostOpen
   pub on-top : entryAt stack n ≡ entry ph (suc m) c ch sv
   pub chunk-size : length ch ≡ 16
   pub clauses : Clauses T cl ats c ls

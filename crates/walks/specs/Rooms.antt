@@ -9,58 +9,59 @@ use lib.Dec.{leb}
 use lib.ListN.{length, length-append, length-map}
 use borrow.Author.Tests.{le-leb, lt-leb}
 use Rattle.scope.specs.Form.{Form, both}
+use Rattle.scope.specs.Limits.{mostWorlds, mostClauses, mostOpen, mostChunks}
 use Rattle.scope.specs.Obligation.{Lab, Sequent, Phase, goal, chunks, focus, Obligation, ob}
 use Rattle.scope.specs.Room.{chunkCount, metCount, openCount, small, within}
 use Rattle.walks.specs.Related.{labs, chunksOf, metIn}
 
 -- Worlds, clauses and chunks of an obligation are within the limits.
 pub record Small (s : Sequent) (p : Phase) : Type 0 where
-  pub worlds : s .worlds ≤ 32
-  pub clauses : length (s .clauses) ≤ 256
-  pub chunks : chunkCount p ≤ 16
+  pub worlds : s .worlds ≤ mostWorlds
+  pub clauses : length (s .clauses) ≤ mostClauses
+  pub chunks : chunkCount p ≤ mostChunks
 
 pub small-more : (s : Sequent) (p : Phase) (os : List Obligation) → Small s p → small os ≡ true → small (ob s p ∷ os) ≡ true
 unfolding small
 small-more s p os h e =
-    rw (le-leb (s .worlds) 32 (h .worlds), le-leb (length (s .clauses)) 256 (h .clauses), le-leb (chunkCount p) 16 (h .chunks)) e
+    rw (le-leb (s .worlds) mostWorlds (h .worlds), le-leb (length (s .clauses)) mostClauses (h .clauses), le-leb (chunkCount p) mostChunks (h .chunks)) e
 
-pub within-true : (n : ℕ) (os : List Obligation) → small os ≡ true → openCount os + n ≤ 256 → within n os ≡ true
+pub within-true : (n : ℕ) (os : List Obligation) → small os ≡ true → openCount os + n ≤ mostOpen → within n os ≡ true
 unfolding within
-within-true n os e h = rw (e, le-leb (openCount os + n) 256 h) refl
+within-true n os e h = rw (e, le-leb (openCount os + n) mostOpen h) refl
 
 both-false : (b : Bool) → both b false ≡ false
 unfolding both
 both-false true = refl
 both-false false = refl
 
-pub open-over : (n : ℕ) (os : List Obligation) → 256 < openCount os + n → within n os ≡ false
+pub open-over : (n : ℕ) (os : List Obligation) → mostOpen < openCount os + n → within n os ≡ false
 unfolding within
-open-over n os h = rw (lt-leb (openCount os + n) 256 h) (both-false (small os))
+open-over n os h = rw (lt-leb (openCount os + n) mostOpen h) (both-false (small os))
 
 small-false : (n : ℕ) (os : List Obligation) → small os ≡ false → within n os ≡ false
 unfolding within both
 small-false n os e = rw e refl
 
-pub worlds-over : (n : ℕ) (s : Sequent) (p : Phase) → 32 < s .worlds → within n (ob s p ∷ []) ≡ false
+pub worlds-over : (n : ℕ) (s : Sequent) (p : Phase) → mostWorlds < s .worlds → within n (ob s p ∷ []) ≡ false
 worlds-over n s p h = small-false n (ob s p ∷ []) (over h)
   where
-    over : 32 < s .worlds → small (ob s p ∷ []) ≡ false
-    over h = unfold small in rw (lt-leb (s .worlds) 32 h) refl
+    over : mostWorlds < s .worlds → small (ob s p ∷ []) ≡ false
+    over h = unfold small in rw (lt-leb (s .worlds) mostWorlds h) refl
 
-pub clauses-over : (n : ℕ) (s : Sequent) (p : Phase) → 256 < length (s .clauses) → within n (ob s p ∷ []) ≡ false
+pub clauses-over : (n : ℕ) (s : Sequent) (p : Phase) → mostClauses < length (s .clauses) → within n (ob s p ∷ []) ≡ false
 unfolding small both
-clauses-over n s p h = small-false n (ob s p ∷ []) (go (leb (s .worlds) 32))
+clauses-over n s p h = small-false n (ob s p ∷ []) (go (leb (s .worlds) mostWorlds))
   where
-    go : (b : Bool) → both (both b (both (leb (length (s .clauses)) 256) (leb (chunkCount p) 16))) true ≡ false
-    go true = rw (lt-leb (length (s .clauses)) 256 h) refl
+    go : (b : Bool) → both (both b (both (leb (length (s .clauses)) mostClauses) (leb (chunkCount p) mostChunks))) true ≡ false
+    go true = rw (lt-leb (length (s .clauses)) mostClauses h) refl
     go false = refl
 
-pub chunks-over : (n : ℕ) (s : Sequent) (p : Phase) → 16 < chunkCount p → within n (ob s p ∷ []) ≡ false
+pub chunks-over : (n : ℕ) (s : Sequent) (p : Phase) → mostChunks < chunkCount p → within n (ob s p ∷ []) ≡ false
 unfolding small both
-chunks-over n s p h = small-false n (ob s p ∷ []) (go (leb (s .worlds) 32) (leb (length (s .clauses)) 256))
+chunks-over n s p h = small-false n (ob s p ∷ []) (go (leb (s .worlds) mostWorlds) (leb (length (s .clauses)) mostClauses))
   where
-    go : (a b : Bool) → both (both a (both b (leb (chunkCount p) 16))) true ≡ false
-    go true true = rw (lt-leb (chunkCount p) 16 h) refl
+    go : (a b : Bool) → both (both a (both b (leb (chunkCount p) mostChunks))) true ≡ false
+    go true true = rw (lt-leb (chunkCount p) mostChunks h) refl
     go true false = refl
     go false b = refl
 
@@ -82,7 +83,7 @@ met-length s (chunks c cs g) = refl
 met-length s (focus d p w met) = length-map met (λ (g : Lab). ob s (goal g))
 
 -- Subgoals that were met, as obligations of their own.
-pub goals-small : (s : Sequent) → s .worlds ≤ 32 → length (s .clauses) ≤ 256 → (met : List Lab) →
+pub goals-small : (s : Sequent) → s .worlds ≤ mostWorlds → length (s .clauses) ≤ mostClauses → (met : List Lab) →
     small (map (λ (g : Lab). ob s (goal g)) met) ≡ true
 unfolding small chunkCount
 goals-small s h g [] = refl

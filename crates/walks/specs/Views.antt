@@ -9,6 +9,7 @@ use native.Mathlib.Nat.{eq-or-lt-of-le}
 use lib.ListN.{length, getD, set}
 use lib.Seq.{getD-set-same, getD-set-other}
 use Rattle.scope.specs.Form.{Form}
+use Rattle.scope.specs.Limits.{mostClauses}
 use Rattle.scope.specs.Obligation.{Lab, lab, Obligation}
 use Rattle.facts.specs.Kept.{Agree, agree-self, agree-then}
 use Rattle.machine.specs.declared.Obligation as E
@@ -110,7 +111,7 @@ clauses-set {T} {cl} {ats} {c} i x y h k =
       few = k .few;
     }
 
-pub clauses-pushed : {T : Reading} {cl ats : List ℕ} {c : ℕ} {ls : List Lab} (x y : ℕ) → x < T .formulas → c < 256 →
+pub clauses-pushed : {T : Reading} {cl ats : List ℕ} {c : ℕ} {ls : List Lab} (x y : ℕ) → x < T .formulas → c < mostClauses →
     length cl ≡ 257 → length ats ≡ 257 → Clauses T cl ats c ls →
     Clauses T (set cl c x) (set ats c y) (suc c) (ls ++ (lab (T .tree x) y ∷ []))
 unfolding labs
