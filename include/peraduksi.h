@@ -27,7 +27,7 @@ enum peraduksi_refusal {
     PERADUKSI_GRANTED = 0,              /* granted, read or written: place 0 */
     PERADUKSI_FILE_TOO_LONG = 1,        /* file over 65,536 bytes: place 0 */
     PERADUKSI_OUT_OF_SHAPE = 2,         /* line missing, out of shape, or without LF: line */
-    PERADUKSI_OUT_OF_RANGE = 3,         /* number outside its range, in tables also an unknown kind: line, or 0 */
+    PERADUKSI_OUT_OF_RANGE = 3,         /* number outside its range; in tables see below: line, or 0 */
     PERADUKSI_NAMES_LATER = 4,          /* formula names itself or a later one: line */
     PERADUKSI_WRONG_CLASS = 5,          /* policy line or goal of the wrong class: line */
     PERADUKSI_BYTES_AFTER = 6,          /* bytes after the last step: line */
@@ -140,6 +140,9 @@ struct peraduksi_reading peraduksi_read(
     uint16_t *forms, size_t forms_length,
     uint16_t *policy, size_t policy_length,
     uint16_t *steps, size_t steps_length);
+
+/* Of tables that a caller made, writer and judge ask what the reader's have: a known kind, and 0 for an operand or a number that
+   its kind lacks, or 3 at the line that the text would have; and 0 in every entry past the counts, or 3 at place 0. */
 
 /* Writes the request in the tables as text. Bytes past the text are 0; after a refusal the whole output is 0. */
 struct peraduksi_writing peraduksi_write(

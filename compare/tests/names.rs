@@ -48,6 +48,24 @@ fn limits_of_the_document() {
     assert_eq!(rooms, [limits::FORMS_ROOM, limits::CLAUSES_ROOM, limits::STEPS_ROOM]);
 }
 
+/// The header writes a room as a factor and a limit, or as a limit alone.
+#[test]
+fn rooms_and_version_of_the_header() {
+    let most = numbers("PERADUKSI_MOST_");
+    let product = |words: &str| -> usize {
+        words.split(" * ").map(|word| word.parse().unwrap_or_else(|_| most[&word["PERADUKSI_MOST_".len()..].to_lowercase()])).product()
+    };
+    let lines = HEADER.lines().filter_map(|line| line.trim().trim_end_matches(',').split_once("_ROOM = "));
+    let rooms: Vec<_> = lines.map(|(name, words)| (name, product(words))).collect();
+    let wanted = [
+        ("PERADUKSI_FORMS", limits::FORMS_ROOM),
+        ("PERADUKSI_POLICY", limits::CLAUSES_ROOM),
+        ("PERADUKSI_STEPS", limits::STEPS_ROOM),
+    ];
+    assert_eq!(rooms, wanted);
+    assert_eq!(named("PERADUKSI_")["VERSION"], "1");
+}
+
 #[test]
 fn refusals_of_the_document() {
     use peraduksi::Reason;

@@ -21,7 +21,7 @@ pub const FORMS_ROOM: usize = 3 * 1_024;
 pub const POLICY_ROOM: usize = 128;
 pub const STEPS_ROOM: usize = 2 * 2_048;
 
-/// The longest file that is read, and the longest text that is written.
+/// The longest file that is read; room enough for every text that is written.
 pub const MOST_BYTES: usize = 65_536;
 
 /// Reads a request file. Entries past the last one read are 0; after a refusal every table is all 0.
@@ -32,12 +32,15 @@ pub fn read(text: &[u8], forms: &mut [u16], policy: &mut [u16], steps: &mut [u16
 
 /// Writes the request in the tables as text, and answers its length. Bytes past it are 0; after a refusal the whole output
 /// is 0.
+///
+/// Tables have what the reader's have: a known kind, and 0 for an operand or a number that its kind lacks, or it is refusal 3 at
+/// the line that the text would have; and 0 in every entry past the counts, or it is refusal 3 at place 0.
 pub fn write(counts: Counts, forms: &[u16], policy: &[u16], steps: &[u16], out: &mut [u8]) -> Result<usize, Refusal> {
     let written = calls::write(counts, forms, policy, steps, out);
     answered(written.refusal, written.place, written.length)
 }
 
-/// Judges the request in the tables. `Ok` grants.
+/// Judges the request in the tables, of which it asks what [`write`] asks. `Ok` grants.
 pub fn judge(counts: Counts, forms: &[u16], policy: &[u16], steps: &[u16]) -> Result<(), Refusal> {
     let answer = calls::judge(counts, forms, policy, steps);
     answered(answer.refusal, answer.place, ())

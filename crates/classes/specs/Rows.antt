@@ -6,7 +6,7 @@ use mathlib.Core.Path.{_≡_, refl, ap, sym, _∙_}
 use mathlib.Core.List.{List, [], _∷_, _++_}
 use lib.ListN.{length, getD, take, drop, length-append}
 use lib.Seq.{drop-drop, getD-take, getD-drop}
-pub use Rattle.scope.specs.Turns.{unpack-turn, unpack-length}
+pub use Rattle.scope.specs.Unpack.{unpack-turn, unpack-length}
 use Rattle.scope.specs.Form.{Form}
 use Rattle.scope.specs.Request.{Row, rowForm, formsAfter}
 use Rattle.scope.specs.Tables.{Entry, formEntry, unpack}

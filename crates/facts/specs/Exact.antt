@@ -1,4 +1,4 @@
--- The statements of this crate in one place. However a sequent's rows were made by the operations, marks and returns included, they tell a
+-- The statements of this crate in one place. However a sequent's rows were made by the operations, returns to a mark (the saved rows of sf) included, they tell a
 -- fact of its worlds and principals exactly if it follows from the sequent's own given facts by rules 1 to 9: `built-exact`. And what did not
 -- follow where a branch stood is not told after the return to it: `gone`.
 use Prim.Native.Nat.{ℕ, suc, _<_, _≤_}

@@ -100,6 +100,11 @@ pub sf-row : (r : List ℕ) (v a : ℕ) → a < principalsMax → sfRow r v a �
 unfolding sfRow
 sf-row r v a h = rw (lt-ltb a principalsMax h)
 
+-- What is saved of a branch has one row for each principal.
+pub sf-length : (r : List ℕ) (m : ℕ) → length (sfRows r m) ≡ principalsMax
+unfolding sfRows
+sf-length r m = length-fill (λ c. getD r (sfAt m + c) 0) 0 principalsMax (replicate principalsMax 0)
+
 -- Tables whose rows of the first n worlds are the same tell the same facts about those worlds.
 module _ (n k : ℕ) (r s : List ℕ) (few : k ≤ principalsMax)
     (same : (i : ℕ) → i < n * rowsEach → getD s i 0 ≡ getD r i 0) where

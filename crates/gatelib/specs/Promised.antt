@@ -1,4 +1,4 @@
--- What the desk may conclude from the gate's three numbers: answer 0 exactly where the file reads to a request whose steps are a derivation
+-- What a caller may conclude from the gate's three numbers: answer 0 exactly where the file reads to a request whose steps are a derivation
 -- within the limits; and then the goal holds in every finite model, at each world where the policy holds.
 use Prim.Native.Nat.{ℕ}
 use mathlib.Core.Path.{_≡_, refl, sym, ap, _∙_}

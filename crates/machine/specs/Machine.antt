@@ -1,6 +1,6 @@
 -- The walk through the steps over tables of numbers. Crate `walks` proves that it answers as document 01's walk does.
 use Prim.Native.Nat.{ℕ, zero, suc, _+_, _-_, _*_}
-use mathlib.Core.List.{List, [], _∷_}
+use mathlib.Core.List.{List}
 use lib.ListN.{getD, set, replicate}
 use lib.Dec.{eqb}
 use Rattle.facts.specs.Rows.{rootRows, noted}
@@ -124,7 +124,7 @@ begun forms lines count goal =
       ats = replicate 257 0;
     }
 
--- The answer about the steps for tables that passed their checks.
+-- The answer about the steps, for any tables and counts.
 unfoldable pub ran : List ℕ → List ℕ → List ℕ → ℕ → ℕ → ℕ → Walked
 unfolding ranFrom begun
 ran forms lines steps count goal stepCount = ranFrom forms steps stepCount 0 (begun forms lines count goal)

@@ -159,7 +159,7 @@ fn fork_to(upper: Obligation, lower: Obligation, opened: u16) -> Change
     }
 }
 
-// The moves: where one obligation stays current,
+// The moves: where none more is open,
 fn after_close(o: Obligation, opened: u16) -> Change
     ensures { λ r. ⌜ r ≡ alone o (opened - 1) ⌝ }
 {

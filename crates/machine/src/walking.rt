@@ -1,6 +1,5 @@
 // The walk: each step is judged on the current obligation and its move written in place; the first refusal is the answer.
 ghost use mathlib.Core.Path.{_≡_};
-ghost use mathlib.Core.List.{[], _∷_};
 ghost use lib.ListN.{set};
 ghost use Rattle.moves.specs.Judge.{judgeStep};
 ghost use Rattle.machine.specs.Change.{goalIn};
@@ -20,7 +19,6 @@ use moves::Judged;
 use moves::judging;
 use moves::judging::CLAUSES;
 use steps::Step;
-use steps::World;
 
 fn step_at(steps: &[u16], i: u16) -> Step
     ensures { λ r. ⌜ r ≡ stepIn (now (steps .entry)) i ⌝ }

@@ -1,5 +1,5 @@
 -- What each of the eighteen steps comes to on the numbers of a formula's row, tests in the order of the refusals 7, 8, 9, 10.
--- crate `walks` proves that these are document 01's steps (scope's `stepOn` and `within`).
+-- Crate `walks` proves that these are document 01's steps (scope's `stepOn` and `within`).
 use Prim.Native.Nat.{ℕ}
 use mathlib.Core.Bool.{Bool, true, false}
 use mathlib.Core.List.{List}

@@ -145,11 +145,11 @@ texts =
     -- step numbers 0 to 65,535
     bytes "version=1\nprincipals=1\natoms=1\nformulas=1\nform=top\nclauses=0\ngoal=0\nsteps=1\nstep=use 65536\n" ∷
     bytes "version=1\nprincipals=1\natoms=1\nformulas=1\nform=top\nclauses=0\ngoal=0\nsteps=1\nstep=use 65535\n" ∷
-    -- 2, 3, 4 on one line: the smallest
+    -- 3 and 4 on one line: the smaller
     bytes "version=1\nprincipals=1\natoms=1\nformulas=1\nform=says 99 99\n" ∷
     -- a formula that names itself
     bytes "version=1\nprincipals=1\natoms=1\nformulas=1\nform=says 0 0\n" ∷
-    -- a policy line of no class
+    -- a policy line of the wrong class
     bytes "version=1\nprincipals=1\natoms=1\nformulas=1\nform=bot\nclauses=1\nclause=0\n" ∷
     -- `says` of an `or` is no chunk
     bytes "version=1\nprincipals=1\natoms=1\nformulas=4\nform=p 0\nform=or 0 0\nform=says 0 1\nform=imp 2 0\nclauses=0\ngoal=3\n" ∷

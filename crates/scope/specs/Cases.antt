@@ -84,11 +84,11 @@ guards =
     case
     "version=1\nprincipals=2\natoms=1\nformulas=4\nform=sf 0 1\nform=p 0\nform=or 0 1\nform=imp 2 0\nclauses=0\ngoal=3\nsteps=6\nstep=imp\nstep=case\nstep=note\nstep=sf\nstep=push\nstep=sf\n"
     (prints 9 6 6) ∷
-    -- a new world's facts are closed, rule 6: policy 0 says p1, goal 0 says (p0 imp p1), `to 1`
+    -- a clause used from a newer world, by 0 S_0 1 and 1 ≤ 2: policy 0 says p1, goal 0 says (p0 imp p1), `to 1`
     case
     "version=1\nprincipals=1\natoms=2\nformulas=5\nform=p 0\nform=p 1\nform=says 0 1\nform=imp 0 1\nform=says 0 3\nclauses=1\nclause=2\ngoal=4\nsteps=6\nstep=says\nstep=imp\nstep=push\nstep=use 0\nstep=to 1\nstep=hit\n"
     (prints 0 0 6) ∷
-    -- and rule 6 stops at z = w: the same with `to 2`
+    -- and no rule takes S along ≤ on the right: the same with `to 2`
     case
     "version=1\nprincipals=1\natoms=2\nformulas=5\nform=p 0\nform=p 1\nform=says 0 1\nform=imp 0 1\nform=says 0 3\nclauses=1\nclause=2\ngoal=4\nsteps=6\nstep=says\nstep=imp\nstep=push\nstep=use 0\nstep=to 2\nstep=hit\n"
     (prints 9 5 6) ∷

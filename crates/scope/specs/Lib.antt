@@ -23,7 +23,7 @@ pub mod Text
 pub mod Reader
 pub mod Tables
 pub mod Checked
-pub mod Turns
+pub mod Unpack
 pub mod Calls
 pub mod Judge
 pub mod Models

@@ -5,7 +5,6 @@ use mathlib.Core.Path.{_≡_, refl}
 use mathlib.Core.Bool.{Bool, true, false}
 use mathlib.Core.List.{List, [], _∷_}
 use mathlib.Core.Logic.{_↔_, ⊎-map}
-use native.Mathlib.Omega.{arith}
 use Rattle.scope.specs.Form as F
 use Rattle.scope.specs.Form.{Form, both, either}
 use Rattle.scope.specs.Models as M

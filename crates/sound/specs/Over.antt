@@ -3,7 +3,6 @@ use Prim.Native.Nat.{ℕ, zero, suc, _<_}
 use mathlib.Core.Path.{_≡_}
 use mathlib.Core.List.{List, [], _∷_, _++_}
 use mathlib.Core.Option.{some}
-use native.Mathlib.Omega.{arith}
 use lib.ListN.{getElem?}
 use Rattle.scope.specs.Tests.{never}
 use Rattle.scope.specs.Form.{Form, atom, top, bot, and, or, imp, says, sf}

@@ -14,7 +14,7 @@ use Rattle.scope.specs.Kinds.{Sort, Kind, kindIn, stepKinds}
 use Rattle.scope.specs.Refusals.{restZero, stepRefusal}
 use Rattle.scope.specs.Tables.{Lent, formEntry, lineEntry, stepEntry, table, hasRoom, requestOf, lentOf}
 use Rattle.scope.specs.Checked.{allZero, pastZero}
-use Rattle.scope.specs.Turns.{unpack-length}
+use Rattle.scope.specs.Unpack.{unpack-length}
 use Rattle.scope.specs.Tests.{both-true, both-met}
 use Rattle.trip.specs.Words.{everyKind, every-at}
 use Rattle.trip.specs.RowRanges.{row-passed}

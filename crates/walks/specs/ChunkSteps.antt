@@ -27,7 +27,8 @@ use Rattle.moves.specs.Judge.{rowAt, onChunk, chunkStep}
 use Rattle.machine.specs.Change as numbers
 use Rattle.machine.specs.Machine.{Stack}
 use Rattle.walks.specs.Trees.{Means, Reading}
-use Rattle.walks.specs.Related.{Entry, stateOf, downFrom, chunksOf, Below, seq, Waits, Frame}
+use Rattle.machine.specs.Turn.{stateOf}
+use Rattle.walks.specs.Related.{Entry, downFrom, chunksOf, Below, seq, Waits, Frame}
 use Rattle.walks.specs.Views.{waits-count}
 use Rattle.walks.specs.Moved.{moved-close}
 use Rattle.walks.specs.Moves.{moved-drop, moved-note, moved-push, moved-split, moved-case}

@@ -33,7 +33,8 @@ use Rattle.machine.specs.Change as numbers
 use Rattle.machine.specs.Change.{goalIn}
 use Rattle.machine.specs.Machine.{Stack}
 use Rattle.walks.specs.Trees.{Reading}
-use Rattle.walks.specs.Related.{Entry, stateOf, downFrom, at-goal, at-rest, in-focus, seq, Waits, metIn, Frame}
+use Rattle.machine.specs.Turn.{stateOf}
+use Rattle.walks.specs.Related.{Entry, downFrom, seq, Waits, metIn, Frame}
 use Rattle.walks.specs.Views.{waits-count}
 use Rattle.walks.specs.Moved.{moved-close}
 use Rattle.walks.specs.Moves.{moved-go, moved-aim, moved-both, moved-less, moved-speak}

@@ -7,15 +7,14 @@ use mathlib.Core.List.{List, [], _∷_, _++_}
 use native.Mathlib.Omega.{arith}
 use native.Mathlib.Numerals.{add-one}
 use borrow.Author.Tests.{le-leb, lt-leb}
-use lib.ListN.{length, getD, set, replicate, length-set}
+use lib.ListN.{length, getD, set, length-set}
 use lib.Seq.{getD-set-same, getD-set-other}
 use Rattle.scope.specs.Facts.{Fact}
 use Rattle.scope.specs.Limits.{mostOpen}
 use Rattle.scope.specs.Obligation.{Lab, Sequent, Phase, Obligation, ob}
 use Rattle.scope.specs.Tests.{never}
-use Rattle.facts.specs.Fill.{length-fill}
-use Rattle.facts.specs.Rows.{sfAt, sfRows, putSf}
-use Rattle.facts.specs.Kept.{Kept, agree-self, agree-put, kept-back}
+use Rattle.facts.specs.Rows.{sfRows, putSf}
+use Rattle.facts.specs.Kept.{Kept, sf-length, agree-self, agree-put, kept-back}
 use Rattle.moves.specs.declared.Phase as D
 use Rattle.moves.specs.declared.Move as M
 use Rattle.moves.specs.declared.Move.the-variants as move
@@ -26,15 +25,12 @@ use Rattle.machine.specs.Tables.{block, putBlock, topChunk, chunksAfter, savedA
 use Rattle.machine.specs.Machine.{Stack, nothing, obligationAt, moved}
 use Rattle.walks.specs.Trees.{Reading}
 use Rattle.walks.specs.Blocks.{block-length, block-put, put-length, same-self, same-put}
-use Rattle.walks.specs.Related.{stateOf, Entry, headOf, entry, entryAt, downFrom, Rests, at-goal, at-chunks, Stands, at-rest, Clauses}
+use Rattle.machine.specs.Turn.{stateOf}
+use Rattle.walks.specs.Related.{Entry, headOf, entry, entryAt, downFrom, Rests, at-goal, at-chunks, Stands, at-rest, Clauses}
 use Rattle.walks.specs.Related.{seq, Waits, none-waits, one-waits, metIn, Frame, Related, all-closed, now-open}
 use Rattle.walks.specs.Views.{entry-is, head-is, saved-is, entry-under, down-under, under-two}
 use Rattle.walks.specs.Views.{clauses-set, waits-set, waits-rows}
 use Rattle.walks.specs.Chunks.{one-less, Wrote}
-
-sf-length : (rows : List ℕ) (m : ℕ) → length (sfRows rows m) ≡ 16
-unfolding sfRows
-sf-length rows m = length-fill (λ c. getD rows (sfAt m + c) 0) 0 16 (replicate 16 0)
 
 -- The saved rows: one more is written where one more is open.
 abbrev pub savedNow : List ℕ → Stack → ℕ → M.Move → E.Obligation → List ℕ

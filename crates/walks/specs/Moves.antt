@@ -27,7 +27,8 @@ use Rattle.machine.specs.Machine.{Stack, State, moved}
 use Rattle.walks.specs.Trees.{Reading}
 use Rattle.facts.specs.Grown.{kept-le, kept-by, agree-le, agree-by}
 use Rattle.facts.specs.Noted.{kept-note, agree-note}
-use Rattle.walks.specs.Related.{Entry, stateOf, downFrom, chunksOf, Below, Rests, at-goal, at-chunks, Stands, at-rest, in-focus}
+use Rattle.machine.specs.Turn.{stateOf}
+use Rattle.walks.specs.Related.{Entry, downFrom, chunksOf, Below, Rests, at-goal, at-chunks, Stands, at-rest, in-focus}
 use Rattle.walks.specs.Related.{Clauses, seq, Waits, metIn, Frame, Related}
 use Rattle.walks.specs.Views.{chunks-set, below-less, below-more, clauses-set, clauses-pushed, waits-set, waits-rows, waits-wider}
 use Rattle.walks.specs.Chunks.{one-less, wrote-set, wrote-above, wrote-none, wrote-copy, case-above, top-is}

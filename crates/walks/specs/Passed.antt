@@ -10,7 +10,7 @@ use Rattle.scope.specs.Request.{Row}
 use Rattle.scope.specs.Kinds.{formKinds}
 use Rattle.scope.specs.Refusals.{formRefusal}
 use Rattle.scope.specs.Tables.{Lent, formEntry, lineEntry, unpack, requestOf}
-use Rattle.scope.specs.Turns.{unpack-length}
+use Rattle.scope.specs.Unpack.{unpack-length}
 use Rattle.trip.specs.RowRanges as ranges
 use Rattle.trip.specs.RowRanges.{row-passed}
 use Rattle.trip.specs.Small.{count-passed, clause-named, goal-named}

@@ -27,7 +27,8 @@ use Rattle.machine.specs.declared.Walked.the-variants.{Granted, Refused}
 use Rattle.machine.specs.Tables.{topChunk}
 use Rattle.machine.specs.Machine.{Stack, State, nothing, obligationAt, stepIn, moved, judgedNow, goOn, ranFrom}
 use Rattle.walks.specs.Trees.{Reading}
-use Rattle.walks.specs.Related.{Entry, stateOf, headOf, downFrom, at-goal, at-chunks, Stands, at-rest, in-focus, seq, Waits, metIn, Frame}
+use Rattle.machine.specs.Turn.{stateOf}
+use Rattle.walks.specs.Related.{Entry, headOf, downFrom, at-goal, at-chunks, Stands, at-rest, in-focus, seq, Waits, metIn, Frame}
 use Rattle.walks.specs.Related.{Related, all-closed, now-open}
 use Rattle.walks.specs.Views.{head-is}
 use Rattle.walks.specs.Chunks.{one-less, top-is}

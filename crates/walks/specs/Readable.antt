@@ -9,7 +9,7 @@ use Rattle.scope.specs.Form.{Form, top}
 use Rattle.scope.specs.Request.{Row, rowForm, formsAfter, formula}
 use Rattle.scope.specs.Kinds.{kindIn, formKinds}
 use Rattle.scope.specs.Tables.{Lent, formEntry, unpack}
-use Rattle.scope.specs.Turns.{unpack-length}
+use Rattle.scope.specs.Unpack.{unpack-length}
 use Rattle.trip.specs.RowRanges as ranges
 use Rattle.moves.specs.Judge.{rowAt}
 use Rattle.walks.specs.Trees.{Means, means-atom, means-top, means-bot, means-and, means-or, means-imp, means-says, means-sf, Reading}

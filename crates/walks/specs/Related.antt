@@ -18,11 +18,8 @@ use Rattle.machine.specs.declared.Obligation as E
 use Rattle.machine.specs.Change as numbers
 use Rattle.machine.specs.Tables.{block}
 use Rattle.machine.specs.Machine.{Stack, State, nothing}
+use Rattle.machine.specs.Turn.{stateOf}
 use Rattle.walks.specs.Trees.{Reading}
-
-abbrev pub stateOf : List ℕ → Stack → ℕ → List ℕ → List ℕ → State
-stateOf rows stack opened cl ats =
-    record { rows = rows; stack = stack; opened = opened; clauses = cl; ats = ats }
 
 -- An entry of the stack: what its tables say of one place.
 pub record Entry : Type 0 where

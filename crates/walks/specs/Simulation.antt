@@ -7,7 +7,7 @@ use Rattle.scope.specs.Obligation.{Step}
 use Rattle.scope.specs.Room.{within}
 use Rattle.scope.specs.Walk.{walk}
 use Rattle.scope.specs.Tables.{Lent, lineEntry, unpack, requestOf}
-use Rattle.scope.specs.Turns.{unpack-length}
+use Rattle.scope.specs.Unpack.{unpack-length}
 use Rattle.scope.specs.Checked.{checked}
 use Rattle.scope.specs.Judge.{stepsOf, startOf, stepsAnswer}
 use Rattle.trip.specs.Trip.{checked-fine}

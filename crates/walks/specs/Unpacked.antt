@@ -1,10 +1,10 @@
 -- The things of a lent table, each by its place: `unpack-at`, and for formulas, policy lines and steps `form-at`, `line-at` and `steps-are`.
 use Prim.Native.Nat.{ℕ, zero, suc, _+_, _*_, _<_}
-use mathlib.Core.Path.{_≡_, refl, sym, ap, _∙_}
-use mathlib.Core.List.{List, [], _∷_, map}
+use mathlib.Core.Path.{_≡_, refl, ap, _∙_}
+use mathlib.Core.List.{List, map}
 use native.Mathlib.Omega.{arith}
 use native.Mathlib.Nat.{add-zero}
-use lib.ListN.{getD, take, drop, List·getD-map}
+use lib.ListN.{getD, take, drop}
 use lib.Seq.{getD-take, getD-drop, drop-drop}
 use Rattle.scope.specs.Request.{Row}
 use Rattle.scope.specs.Obligation.{stepOf}

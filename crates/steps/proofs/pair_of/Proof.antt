@@ -3,7 +3,6 @@ use borrow.Author.Needs.{needs}
 use Rattle.steps.specs.Steps.{pairOf}
 use Rattle.steps.proofs.pair_of.Statement.{statement}
 use Rattle.steps.proofs.pair_of.Tie as tie
-use Rattle.steps.proofs.make_pair.Reads as make-pair-reads
 
 enum-told : tie.Need-enum-told
 enum-told c = search needs

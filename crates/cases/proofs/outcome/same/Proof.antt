@@ -1,6 +1,6 @@
 -- Each of the three numbers was compared before the answer can be true: two by a test that returns false, the last by the answer itself.
 -- Assumes nothing.
-use mathlib.Core.Path.{_≡_, sym}
+use mathlib.Core.Path.{sym}
 use mathlib.Core.Bool.{true≢false}
 use borrow.Author.Tests.{eqb-true}
 use Rattle.cases.proofs.outcome.same.Statement.{statement}
