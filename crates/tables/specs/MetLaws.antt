@@ -70,50 +70,54 @@ first-answer [] = refl
 first-answer (answer zero p ∷ a) = first-answer a
 first-answer (answer (suc k) p ∷ a) = refl
 
--- The first i of several answers are fine.
-pub record Passed (a : List Answer) (i : ℕ) : Type 0 where
-  pub most : i ≤ length a
-  pub fine : met (take i a) ≡ Fine
-
 abbrev pub answerAt : List Answer → ℕ → Answer
 answerAt a i = getD a i (answer 0 0)
 
-pub passed-none : (a : List Answer) → Passed a 0
-unfolding met firstMet checkedOf
-passed-none a = record { most = omega arith; fine = refl }
+-- The first i of n answers are fine.
+pub record Passed (n : ℕ) (a : List Answer) (i : ℕ) : Type 0 where
+  pub most : i ≤ n
+  pub long : length a ≡ n
+  pub fine : met (take i a) ≡ Fine
 
-pub passed-more : (a : List Answer) (i : ℕ) → i < length a → Passed a i → checkedOf (answerAt a i) ≡ Fine → Passed a (i + 1)
-passed-more a i h p e =
+pub passed-none : {n : ℕ} {a : List Answer} → length a ≡ n → Passed n a 0
+unfolding met firstMet checkedOf
+passed-none e = record { most = omega arith; long = e; fine = refl }
+
+pub passed-all : {n : ℕ} {a : List Answer} {i : ℕ} → Passed n a i → n ≤ i → Fine ≡ met a
+passed-all {n} {a} {i} p h =
+    let e : i ≡ length a = omega (arith, p .most, p .long) in
+    sym (p .fine) ∙ ap (λ (k : ℕ). met (take k a)) e ∙ ap met (take-length a)
+
+-- A turn of a loop: the answers before i are fine, and g is what the check of answer i gave.
+pub record Turn (n : ℕ) (a : List Answer) (i : ℕ) (g : Checked) : Type 0 where
+  pub within : i < n
+  pub passed : Passed n a i
+  pub gave : g ≡ checkedOf (answerAt a i)
+
+pub turn-of : {n : ℕ} {a : List Answer} {i : ℕ} {x : Answer} {g : Checked} → i < n → Passed n a i → answerAt a i ≡ x → g ≡ checkedOf x → Turn n a i g
+turn-of h p e gave = record { within = h; passed = p; gave = gave ∙ ap checkedOf (sym e) }
+
+-- Where g is a refusal, it is the answer to all; else one more is passed.
+pub turn-stop : {n : ℕ} {a : List Answer} {i : ℕ} {g : Checked} {r : Refusal} → Turn n a i g → g ≡ Refused r → g ≡ met a
+turn-stop {n} {a} {i} {g} {r} t e =
+    let h : i < length a = rw (t .passed .long) (t .within) in
+    e ∙
+    sym
+    (ap met (split-at a i (answer 0 0) h) ∙
+    met-fine (take i a) (answerAt a i ∷ drop (suc i) a) (t .passed .fine) ∙
+    met-refused (answerAt a i ∷ []) (drop (suc i) a) r (met-one (answerAt a i) ∙ sym (t .gave) ∙ e))
+
+pub turn-go : {n : ℕ} {a : List Answer} {i : ℕ} {g : Checked} → Turn n a i g → g ≡ Fine → Passed n a (i + 1)
+turn-go {n} {a} {i} t e =
+    let h : i < length a = rw (t .passed .long) (t .within) in
     record {
-      most = omega arith;
+      most = omega (arith, t .within);
+      long = t .passed .long;
       fine =
           ap (λ (k : ℕ). met (take k a)) (add-one i) ∙
           ap met (take-suc a i (answer 0 0) h) ∙
-          met-fine (take i a) (answerAt a i ∷ []) (p .fine) ∙
+          met-fine (take i a) (answerAt a i ∷ []) (t .passed .fine) ∙
           met-one (answerAt a i) ∙
+          sym (t .gave) ∙
           e;
     }
-
-pub passed-refused : (a : List Answer) (i : ℕ) (r : Refusal) → i < length a → Passed a i → checkedOf (answerAt a i) ≡ Refused r → met a ≡ Refused r
-passed-refused a i r h p e =
-    ap met (split-at a i (answer 0 0) h) ∙
-    met-fine (take i a) (answerAt a i ∷ drop (suc i) a) (p .fine) ∙
-    met-refused (answerAt a i ∷ []) (drop (suc i) a) r (met-one (answerAt a i) ∙ e)
-
-pub passed-all : (a : List Answer) (i : ℕ) → length a ≤ i → Passed a i → met a ≡ Fine
-passed-all a i h p =
-    let e : i ≡ length a = omega (arith, p .most) in
-    ap met (sym (take-length a)) ∙ ap (λ (k : ℕ). met (take k a)) (sym e) ∙ p .fine
-
--- A turn of a loop: the answers before i are fine, and g is what the check of answer i gave.
-pub record Turn (a : List Answer) (i : ℕ) (g : Checked) : Type 0 where
-  pub within : i < length a
-  pub passed : Passed a i
-  pub gave : g ≡ checkedOf (answerAt a i)
-
--- Where g is a refusal, it is the answer to all; else one more is passed.
-pub turn-stop : {a : List Answer} {i : ℕ} {g : Checked} {r : Refusal} → Turn a i g → g ≡ Refused r → g ≡ met a
-turn-stop {a} {i} {g} {r} t e = e ∙ sym (passed-refused a i r (t .within) (t .passed) (sym (t .gave) ∙ e))
-
-pub turn-go : {a : List Answer} {i : ℕ} {g : Checked} → Turn a i g → g ≡ Fine → Passed a (i + 1)
-turn-go {a} {i} t e = passed-more a i (t .within) (t .passed) (sym (t .gave) ∙ e)

@@ -4,17 +4,19 @@ use native.Mathlib.Nat.{not-suc-le-zero, le-of-suc-le-suc}
 use native.Mathlib.Omega.{arith}
 use mathlib.Core.Path.{_≡_, refl, ap, _∙_}
 use mathlib.Core.List.{List, [], _∷_, _++_}
-use mathlib.Core.Bool.{true, false}
+use mathlib.Core.Bool.{Bool, true, false}
 use lib.ListN.{length, getD, take, drop, length-append, drop-of-length-le}
+use lib.Dec.{ltb}
 use lib.Seq.{drop-cons}
 use native.Mathlib.Numerals.{add-one}
 use borrow.Author.Tests.{ne-eqb}
 use Rattle.scope.specs.Request.{Row}
 use Rattle.scope.specs.Answer.{Answer, answer}
 use Rattle.scope.specs.Limits.{clauseAt, stepAt}
-use Rattle.scope.specs.Refusals.{stepRefusal}
-use Rattle.scope.specs.Checked.{eachOf, allZero}
-use Rattle.scope.specs.Tables.{Entry, unpack, formEntry, lineEntry, stepEntry}
+use Rattle.scope.specs.Tests.{demand-both}
+use Rattle.scope.specs.Refusals.{demand, stepRefusal}
+use Rattle.scope.specs.Checked.{eachOf, allZero, pastZero}
+use Rattle.scope.specs.Tables.{Lent, Entry, unpack, formEntry, lineEntry, stepEntry}
 use Rattle.classes.specs.Class.{policyIn}
 use Rattle.classes.specs.Rows.{unpack-at, unpack-length, number-at, formRow, form-row}
 use Rattle.tables.specs.MetLaws.{answerAt}
@@ -105,3 +107,18 @@ zeros-stop t i h e = rw (drop-cons t i 0) (rw (ne-eqb (getD t i 0) 0 e) refl)
 pub zeros-end : (t : List ℕ) (i : ℕ) → length t ≤ i → allZero (drop i t) ≡ true
 unfolding allZero
 zeros-end t i h = rw (drop-of-length-le t h) refl
+
+-- The three tables past their counts, the last asked first.
+pub past-asked : (t : Lent) {steps lines forms : Bool} {k m r : ℕ} →
+    steps ≡ allZero (drop (2 * t .steps) (t .stepTable)) → k ≡ demand steps 3 0 →
+    lines ≡ allZero (drop (t .lines) (t .lineTable)) → m ≡ demand lines 3 k →
+    forms ≡ allZero (drop (3 * t .formulas) (t .formTable)) → r ≡ demand forms 3 m →
+    r ≡ demand (pastZero t) 3 0
+unfolding pastZero
+past-asked t s k l m f r = rw (demand-both, demand-both) (rw (s, l, f) at (r ∙ ap (demand _ 3) (m ∙ ap (demand _ 3) k)))
+
+-- A formula that a line names: its class byte, the test of it, and the two demands.
+pub class-asked : (test : ℕ → Bool) (cs : List ℕ) (n f : ℕ) {class k r : ℕ} {asked : Bool} →
+    class ≡ getD cs f 0 → asked ≡ test class → k ≡ demand asked 5 0 → r ≡ demand (ltb f n) 3 k → r ≡ classRefusal test cs n f
+unfolding classRefusal
+class-asked test cs n f c a k r = r ∙ ap (demand (ltb f n) 3) (k ∙ ap (λ (b : Bool). demand b 5 0) (a ∙ ap test c))

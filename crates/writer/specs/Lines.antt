@@ -1,16 +1,17 @@
 -- The text of one line, in the parts in which it is put.
-use Prim.Native.Nat.{ℕ, zero, suc, _+_, _/_, _%_, _≤_, _<_}
+use Prim.Native.Nat.{ℕ, zero, suc, _/_, _%_, _≤_, _<_}
 use native.Mathlib.Omega.{arith}
 use mathlib.Core.Path.{_≡_, refl, ap, sym, _∙_}
 use mathlib.Core.List.{List, [], _∷_, _++_, append-assoc, append-nil, map}
 use borrow.Author.Tests.{lt-ltb, le-ltb}
-use lib.ListN.{length, take}
-use lib.Seq.{take-nil}
+use lib.ListN.{length, take, getD, set, replicate, List·getD-eq-default}
+use lib.Seq.{take-nil, getD-set-other}
 use Rattle.scope.specs.Request.{Row}
 use Rattle.scope.specs.Number.{digit, numeral}
 use Rattle.scope.specs.Line.{Line, lineText}
-use Rattle.scope.specs.Kinds.{Kind, kindIn, spaced, rowText, rowShape, formKinds, stepKinds}
+use Rattle.scope.specs.Kinds.{Kind, kind, kindIn, spaced, rowText, rowShape, formKinds, stepKinds}
 use Rattle.scope.specs.Text.{numberShape}
+use Rattle.writer.specs.Puts.{Puts, puts-none, puts-same}
 
 -- A number's digits, where there are 1 to 5 of them: each place's digit stands in its own byte.
 unfoldable pub digits1 : ℕ → List ℕ
@@ -93,71 +94,49 @@ row-line key ks r =
     let rest = operandsText (length (kindIn ks (r .kind) .operands)) (r .left) (r .right) in
     ap (λ (l : List ℕ). l ++ (10 ∷ [])) (append-assoc key word rest ∙ ap (λ (v : List ℕ). key ++ v) (sym (row-text ks r)))
 
--- The kinds that the code does not name: no word, no operand.
-pub no-form-word : (k : ℕ) → (k ≡ 0 → ⊥) → (k ≡ 1 → ⊥) → (k ≡ 2 → ⊥) → (k ≡ 3 → ⊥) → (k ≡ 4 → ⊥) → (k ≡ 5 → ⊥) → (k ≡ 6 → ⊥) → (k ≡ 7 → ⊥) → kindIn formKinds k .word ≡ []
-unfolding kindIn formKinds
-no-form-word zero n0 n1 n2 n3 n4 n5 n6 n7 = absurd (n0 refl)
-no-form-word (suc zero) n0 n1 n2 n3 n4 n5 n6 n7 = absurd (n1 refl)
-no-form-word (suc (suc zero)) n0 n1 n2 n3 n4 n5 n6 n7 = absurd (n2 refl)
-no-form-word (suc (suc (suc zero))) n0 n1 n2 n3 n4 n5 n6 n7 = absurd (n3 refl)
-no-form-word (suc (suc (suc (suc zero)))) n0 n1 n2 n3 n4 n5 n6 n7 = absurd (n4 refl)
-no-form-word (suc (suc (suc (suc (suc zero))))) n0 n1 n2 n3 n4 n5 n6 n7 = absurd (n5 refl)
-no-form-word (suc (suc (suc (suc (suc (suc zero)))))) n0 n1 n2 n3 n4 n5 n6 n7 = absurd (n6 refl)
-no-form-word (suc (suc (suc (suc (suc (suc (suc zero))))))) n0 n1 n2 n3 n4 n5 n6 n7 = absurd (n7 refl)
-no-form-word (suc (suc (suc (suc (suc (suc (suc (suc k)))))))) n0 n1 n2 n3 n4 n5 n6 n7 = refl
+-- What the last arm of a match is told: the number is none of the keys above it, the last key first.
+abbrev pub NoneOf : List ℕ → ℕ → Type 0
+NoneOf [] k = Unit {0}
+NoneOf (n ∷ ns) k = NoneOf ns k × (k ≡ n → ⊥)
 
-pub no-step-word : (k : ℕ) → (k ≡ 0 → ⊥) → (k ≡ 1 → ⊥) → (k ≡ 2 → ⊥) → (k ≡ 3 → ⊥) → (k ≡ 4 → ⊥) → (k ≡ 5 → ⊥) → (k ≡ 6 → ⊥) → (k ≡ 7 → ⊥) → (k ≡ 8 → ⊥) → (k ≡ 9 → ⊥) → (k ≡ 10 → ⊥) → (k ≡ 11 → ⊥) → (k ≡ 12 → ⊥) → (k ≡ 13 → ⊥) → (k ≡ 14 → ⊥) → (k ≡ 15 → ⊥) → (k ≡ 16 → ⊥) → (k ≡ 17 → ⊥) → kindIn stepKinds k .word ≡ []
-unfolding kindIn stepKinds
-no-step-word zero n0 n1 n2 n3 n4 n5 n6 n7 n8 n9 n10 n11 n12 n13 n14 n15 n16 n17 = absurd (n0 refl)
-no-step-word (suc zero) n0 n1 n2 n3 n4 n5 n6 n7 n8 n9 n10 n11 n12 n13 n14 n15 n16 n17 = absurd (n1 refl)
-no-step-word (suc (suc zero)) n0 n1 n2 n3 n4 n5 n6 n7 n8 n9 n10 n11 n12 n13 n14 n15 n16 n17 = absurd (n2 refl)
-no-step-word (suc (suc (suc zero))) n0 n1 n2 n3 n4 n5 n6 n7 n8 n9 n10 n11 n12 n13 n14 n15 n16 n17 = absurd (n3 refl)
-no-step-word (suc (suc (suc (suc zero)))) n0 n1 n2 n3 n4 n5 n6 n7 n8 n9 n10 n11 n12 n13 n14 n15 n16 n17 = absurd (n4 refl)
-no-step-word (suc (suc (suc (suc (suc zero))))) n0 n1 n2 n3 n4 n5 n6 n7 n8 n9 n10 n11 n12 n13 n14 n15 n16 n17 = absurd (n5 refl)
-no-step-word (suc (suc (suc (suc (suc (suc zero)))))) n0 n1 n2 n3 n4 n5 n6 n7 n8 n9 n10 n11 n12 n13 n14 n15 n16 n17 = absurd (n6 refl)
-no-step-word (suc (suc (suc (suc (suc (suc (suc zero))))))) n0 n1 n2 n3 n4 n5 n6 n7 n8 n9 n10 n11 n12 n13 n14 n15 n16 n17 = absurd (n7 refl)
-no-step-word (suc (suc (suc (suc (suc (suc (suc (suc zero)))))))) n0 n1 n2 n3 n4 n5 n6 n7 n8 n9 n10 n11 n12 n13 n14 n15 n16 n17 = absurd (n8 refl)
-no-step-word (suc (suc (suc (suc (suc (suc (suc (suc (suc zero))))))))) n0 n1 n2 n3 n4 n5 n6 n7 n8 n9 n10 n11 n12 n13 n14 n15 n16 n17 = absurd (n9 refl)
-no-step-word (suc (suc (suc (suc (suc (suc (suc (suc (suc (suc zero)))))))))) n0 n1 n2 n3 n4 n5 n6 n7 n8 n9 n10 n11 n12 n13 n14 n15 n16 n17 = absurd (n10 refl)
-no-step-word (suc (suc (suc (suc (suc (suc (suc (suc (suc (suc (suc zero))))))))))) n0 n1 n2 n3 n4 n5 n6 n7 n8 n9 n10 n11 n12 n13 n14 n15 n16 n17 = absurd (n11 refl)
-no-step-word (suc (suc (suc (suc (suc (suc (suc (suc (suc (suc (suc (suc zero)))))))))))) n0 n1 n2 n3 n4 n5 n6 n7 n8 n9 n10 n11 n12 n13 n14 n15 n16 n17 = absurd (n12 refl)
-no-step-word (suc (suc (suc (suc (suc (suc (suc (suc (suc (suc (suc (suc (suc zero))))))))))))) n0 n1 n2 n3 n4 n5 n6 n7 n8 n9 n10 n11 n12 n13 n14 n15 n16 n17 = absurd (n13 refl)
-no-step-word (suc (suc (suc (suc (suc (suc (suc (suc (suc (suc (suc (suc (suc (suc zero)))))))))))))) n0 n1 n2 n3 n4 n5 n6 n7 n8 n9 n10 n11 n12 n13 n14 n15 n16 n17 = absurd (n14 refl)
-no-step-word (suc (suc (suc (suc (suc (suc (suc (suc (suc (suc (suc (suc (suc (suc (suc zero))))))))))))))) n0 n1 n2 n3 n4 n5 n6 n7 n8 n9 n10 n11 n12 n13 n14 n15 n16 n17 = absurd (n15 refl)
-no-step-word (suc (suc (suc (suc (suc (suc (suc (suc (suc (suc (suc (suc (suc (suc (suc (suc zero)))))))))))))))) n0 n1 n2 n3 n4 n5 n6 n7 n8 n9 n10 n11 n12 n13 n14 n15 n16 n17 = absurd (n16 refl)
-no-step-word (suc (suc (suc (suc (suc (suc (suc (suc (suc (suc (suc (suc (suc (suc (suc (suc (suc zero))))))))))))))))) n0 n1 n2 n3 n4 n5 n6 n7 n8 n9 n10 n11 n12 n13 n14 n15 n16 n17 = absurd (n17 refl)
-no-step-word (suc (suc (suc (suc (suc (suc (suc (suc (suc (suc (suc (suc (suc (suc (suc (suc (suc (suc k)))))))))))))))))) n0 n1 n2 n3 n4 n5 n6 n7 n8 n9 n10 n11 n12 n13 n14 n15 n16 n17 = refl
+abbrev pub below : ℕ → List ℕ
+below zero = []
+below (suc n) = n ∷ below n
 
-pub no-form-operand : (k : ℕ) → (k ≡ 0 → ⊥) → (k ≡ 3 → ⊥) → (k ≡ 4 → ⊥) → (k ≡ 5 → ⊥) → (k ≡ 6 → ⊥) → (k ≡ 7 → ⊥) → 0 ≡ length (kindIn formKinds k .operands)
-unfolding kindIn formKinds
-no-form-operand zero n0 n3 n4 n5 n6 n7 = absurd (n0 refl)
-no-form-operand (suc zero) n0 n3 n4 n5 n6 n7 = refl
-no-form-operand (suc (suc zero)) n0 n3 n4 n5 n6 n7 = refl
-no-form-operand (suc (suc (suc zero))) n0 n3 n4 n5 n6 n7 = absurd (n3 refl)
-no-form-operand (suc (suc (suc (suc zero)))) n0 n3 n4 n5 n6 n7 = absurd (n4 refl)
-no-form-operand (suc (suc (suc (suc (suc zero))))) n0 n3 n4 n5 n6 n7 = absurd (n5 refl)
-no-form-operand (suc (suc (suc (suc (suc (suc zero)))))) n0 n3 n4 n5 n6 n7 = absurd (n6 refl)
-no-form-operand (suc (suc (suc (suc (suc (suc (suc zero))))))) n0 n3 n4 n5 n6 n7 = absurd (n7 refl)
-no-form-operand (suc (suc (suc (suc (suc (suc (suc (suc k)))))))) n0 n3 n4 n5 n6 n7 = refl
+none-below : (n k : ℕ) → NoneOf (below n) k → n ≤ k
+none-below zero k h = omega arith
+none-below (suc n) k h =
+    let last = h .1 in
+    omega (arith, none-below n k (h .0))
 
-pub no-step-operand : (k : ℕ) → (k ≡ 7 → ⊥) → (k ≡ 10 → ⊥) → 0 ≡ length (kindIn stepKinds k .operands)
-unfolding kindIn stepKinds
-no-step-operand zero n7 n10 = refl
-no-step-operand (suc zero) n7 n10 = refl
-no-step-operand (suc (suc zero)) n7 n10 = refl
-no-step-operand (suc (suc (suc zero))) n7 n10 = refl
-no-step-operand (suc (suc (suc (suc zero)))) n7 n10 = refl
-no-step-operand (suc (suc (suc (suc (suc zero))))) n7 n10 = refl
-no-step-operand (suc (suc (suc (suc (suc (suc zero)))))) n7 n10 = refl
-no-step-operand (suc (suc (suc (suc (suc (suc (suc zero))))))) n7 n10 = absurd (n7 refl)
-no-step-operand (suc (suc (suc (suc (suc (suc (suc (suc zero)))))))) n7 n10 = refl
-no-step-operand (suc (suc (suc (suc (suc (suc (suc (suc (suc zero))))))))) n7 n10 = refl
-no-step-operand (suc (suc (suc (suc (suc (suc (suc (suc (suc (suc zero)))))))))) n7 n10 = absurd (n10 refl)
-no-step-operand (suc (suc (suc (suc (suc (suc (suc (suc (suc (suc (suc zero))))))))))) n7 n10 = refl
-no-step-operand (suc (suc (suc (suc (suc (suc (suc (suc (suc (suc (suc (suc zero)))))))))))) n7 n10 = refl
-no-step-operand (suc (suc (suc (suc (suc (suc (suc (suc (suc (suc (suc (suc (suc zero))))))))))))) n7 n10 = refl
-no-step-operand (suc (suc (suc (suc (suc (suc (suc (suc (suc (suc (suc (suc (suc (suc zero)))))))))))))) n7 n10 = refl
-no-step-operand (suc (suc (suc (suc (suc (suc (suc (suc (suc (suc (suc (suc (suc (suc (suc zero))))))))))))))) n7 n10 = refl
-no-step-operand (suc (suc (suc (suc (suc (suc (suc (suc (suc (suc (suc (suc (suc (suc (suc (suc zero)))))))))))))))) n7 n10 = refl
-no-step-operand (suc (suc (suc (suc (suc (suc (suc (suc (suc (suc (suc (suc (suc (suc (suc (suc (suc zero))))))))))))))))) n7 n10 = refl
-no-step-operand (suc (suc (suc (suc (suc (suc (suc (suc (suc (suc (suc (suc (suc (suc (suc (suc (suc (suc k)))))))))))))))))) n7 n10 = refl
+-- Past the table there is no word, and nothing is put.
+pub puts-no-word : (ks : List Kind) (k : ℕ) {a : List ℕ} {at : ℕ} → NoneOf (below (length ks)) k → Puts a at (kindIn ks k .word) 16 a at
+unfolding kindIn
+puts-no-word ks k {a} {at} h =
+    rw (List·getD-eq-default ks (kind "" []) (none-below (length ks) k h)) (puts-same refl (omega arith) (puts-none a at))
+
+-- How many operands each kind has, 0 for these kinds.
+abbrev counted : List ℕ → List Kind → List ℕ
+counted [] ks = map (λ (c : Kind). length (c .operands)) ks
+counted (n ∷ ns) ks = set (counted ns ks) n 0
+
+counted-at : (ns : List ℕ) (ks : List Kind) (k : ℕ) → NoneOf ns k → getD (counted ns ks) k 0 ≡ length (kindIn ks k .operands)
+unfolding kindIn
+counted-at [] [] k h = refl
+counted-at [] (c ∷ ks) zero h = refl
+counted-at [] (c ∷ ks) (suc k) h = counted-at [] ks k tt
+counted-at (n ∷ ns) ks k h = getD-set-other (counted ns ks) n k 0 0 (h .1) ∙ counted-at ns ks k (h .0)
+
+zeros-at : (n k : ℕ) → _≡_ {A = ℕ} 0 (getD (replicate n 0) k 0)
+zeros-at zero k = refl
+zeros-at (suc n) zero = refl
+zeros-at (suc n) (suc k) = zeros-at n k
+
+-- The kinds that the code does not name have no operand.
+pub no-form-operand : (k : ℕ) → NoneOf (7 ∷ 6 ∷ 5 ∷ 4 ∷ 3 ∷ 0 ∷ []) k → 0 ≡ length (kindIn formKinds k .operands)
+unfolding formKinds
+no-form-operand k h = zeros-at 8 k ∙ counted-at (7 ∷ 6 ∷ 5 ∷ 4 ∷ 3 ∷ 0 ∷ []) formKinds k h
+
+pub no-step-operand : (k : ℕ) → NoneOf (10 ∷ 7 ∷ []) k → 0 ≡ length (kindIn stepKinds k .operands)
+unfolding stepKinds
+no-step-operand k h = zeros-at 18 k ∙ counted-at (10 ∷ 7 ∷ []) stepKinds k h

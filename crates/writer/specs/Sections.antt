@@ -1,10 +1,10 @@
 -- The text of a request section by section, and a section one line more.
-use Prim.Native.Nat.{ℕ, _+_, _*_}
+use Prim.Native.Nat.{ℕ, _+_, _*_, _≤_, _<_}
 use native.Mathlib.Numerals.{add-one}
 use native.Mathlib.Omega.{arith}
 use mathlib.Core.Path.{_≡_, refl, ap, sym, _∙_}
 use mathlib.Core.List.{List, [], _∷_, _++_, append-assoc, append-nil}
-use lib.ListN.{take, drop}
+use lib.ListN.{length, take, drop}
 use Rattle.scope.specs.Bytes.{joined}
 use Rattle.scope.specs.Line.{Line, lineText, manyText, countedText}
 use Rattle.scope.specs.Text.{versionLine, principalsLine, atomsLine, formulasLine, formLine, clausesLine, clauseLine, goalLine, stepsLine, stepLine, requestText}
@@ -33,24 +33,41 @@ unfolding manyText joined
 many-more text [] x = append-nil (text x)
 many-more text (y ∷ xs) x = ap (λ (l : List ℕ). text y ++ l) (many-more text xs x) ∙ sym (append-assoc (text y) (manyText text xs) (text x))
 
--- One line more behind the first i.
-pub table-more : {A : Type 0} (l : Line A) (e : Entry A) (w i : ℕ) (t : List ℕ) (x : A) {a m z : List ℕ} {at end next : ℕ} →
-    e .get (take (e .width) (drop (e .width * i) t)) ≡ x →
-    Puts a at (tableText l e i t) (w * i) m end → Puts m end (lineText l x) w z next →
-    Puts a at (tableText l e (i + 1) t) (w * (i + 1)) z next
-table-more {A} l e w i t x same p q =
-    puts-same
-    (sym
-    (ap (λ (k : ℕ). tableText l e k t) (add-one i) ∙
-    ap (manyText (lineText l)) (unpack-turn e i t) ∙
-    many-more (lineText l) (unpack e i t) (e .get (take (e .width) (drop (e .width * i) t))) ∙
-    ap (λ (y : A). tableText l e i t ++ lineText l y) same))
-    (omega arith)
-    (puts-then p q)
+-- The lines of the first i of n things are put, each of w bytes at the most, and the output is as long as it was.
+pub record LinesPut {A : Type 0} (l : Line A) (e : Entry A) (w n : ℕ) (t a : List ℕ) (at i : ℕ) (z : List ℕ) (end : ℕ) : Type 0 where
+  pub most : i ≤ n
+  pub put : Puts a at (tableText l e i t) (w * i) z end
+  pub long : length z ≡ length a
 
-pub table-none : {A : Type 0} (l : Line A) (e : Entry A) (w : ℕ) (t a : List ℕ) (at : ℕ) → Puts a at (tableText l e 0 t) (w * 0) a at
+pub lines-none : {A : Type 0} {l : Line A} {e : Entry A} {w n : ℕ} {t a : List ℕ} {at : ℕ} → LinesPut l e w n t a at 0 a at
 unfolding manyText joined unpack
-table-none l e w t a at = record { stored = refl; counted = omega arith; short = omega arith }
+lines-none = record { most = omega arith; put = record { stored = refl; counted = omega arith; short = omega arith }; long = refl }
+
+-- One line more behind the first i.
+pub lines-more : {A : Type 0} {l : Line A} {e : Entry A} {w n : ℕ} {t a : List ℕ} {at i : ℕ} {x : A} {m z : List ℕ} {end next : ℕ} →
+    LinesPut l e w n t a at i m end → i < n → e .get (take (e .width) (drop (e .width * i) t)) ≡ x →
+    Puts m end (lineText l x) w z next → length z ≡ length m →
+    LinesPut l e w n t a at (i + 1) z next
+lines-more {A} {l} {e} {w} {n} {t} {a} {at} {i} p h same q k =
+    record {
+      most = omega arith;
+      put =
+          puts-same
+          (sym
+          (ap (λ (k : ℕ). tableText l e k t) (add-one i) ∙
+          ap (manyText (lineText l)) (unpack-turn e i t) ∙
+          many-more (lineText l) (unpack e i t) (e .get (take (e .width) (drop (e .width * i) t))) ∙
+          ap (λ (y : A). tableText l e i t ++ lineText l y) same))
+          (omega arith)
+          (puts-then (p .put) q);
+      long = k ∙ p .long;
+    }
+
+pub lines-all : {A : Type 0} {l : Line A} {e : Entry A} {w n : ℕ} {t a : List ℕ} {at i : ℕ} {z : List ℕ} {end : ℕ} →
+    LinesPut l e w n t a at i z end → n ≤ i → Puts a at (tableText l e n t) (w * n) z end
+lines-all {A} {l} {e} {w} {n} {t} {a} {at} {i} p h =
+    let same : i ≡ n = omega arith in
+    rw same at (p .put)
 
 counted-same : {A : Type 0} (l : Line ℕ) (item : Line A) (e : Entry A) (n : ℕ) (t : List ℕ) →
     countedText l item (unpack e n t) ≡ lineText l n ++ tableText item e n t

@@ -10,18 +10,6 @@ use Rattle.tables.specs.Answers.{countAnswers}
 use Rattle.tables.proofs.check_counts.Statement.{statement}
 use Rattle.tables.proofs.check_counts.Tie as tie
 
-count-refusal-requires : tie.Need-count-refusal-requires
-count-refusal-requires c κs = search needs
-
-answer-at-requires : tie.Need-answer-at-requires
-answer-at-requires c κs = search needs
-
-enum-told : tie.Need-enum-told
-enum-told c = search needs
-
-enum-told-2 : tie.Need-enum-told-2
-enum-told-2 c = search needs
-
 returns : tie.Need-returns
 unfolding countAnswers
 returns c =
@@ -32,18 +20,6 @@ returns c =
     let g = c .before .before .answer-at in
     let e : g .result ≡ checkedOf principals = rw (c .before .before .before .count-refusal .ensures) at (g .ensures) in
     one-stop principals (atoms ∷ formulas ∷ []) (g .result) (c .enum-told2 .given .0 .0) e (c .enum-told2 .given .1)
-
-count-refusal-requires-2 : tie.Need-count-refusal-requires-2
-count-refusal-requires-2 c κs = search needs
-
-answer-at-requires-2 : tie.Need-answer-at-requires-2
-answer-at-requires-2 c κs = search needs
-
-enum-told-3 : tie.Need-enum-told-3
-enum-told-3 c = search needs
-
-enum-told-4 : tie.Need-enum-told-4
-enum-told-4 c = search needs
 
 returns-2 : tie.Need-returns-2
 unfolding countAnswers
@@ -58,12 +34,6 @@ returns-2 c =
     let f : h .result ≡ checkedOf atoms = rw (c .before .before .before .count-refusal2 .ensures) at (h .ensures) in
     one-stop atoms (formulas ∷ []) (h .result) (c .enum-told4 .given .0 .0) f (c .enum-told4 .given .1) ∙
     one-go principals (atoms ∷ formulas ∷ []) (g .result) e (c .before .before .before .before .enum-told .given .1)
-
-count-refusal-requires-3 : tie.Need-count-refusal-requires-3
-count-refusal-requires-3 c κs = search needs
-
-answer-at-requires-3 : tie.Need-answer-at-requires-3
-answer-at-requires-3 c κs = search needs
 
 returns-3 : tie.Need-returns-3
 unfolding countAnswers
@@ -87,16 +57,16 @@ pub check-counts-spec : {M : Type 1} → statement M
 check-counts-spec =
     tie.close
     (tie.spec
-    count-refusal-requires
-    answer-at-requires
-    enum-told
-    enum-told-2
+    (λ c κs. search needs)
+    (λ c κs. search needs)
+    (λ c. search needs)
+    (λ c. search needs)
     returns
-    count-refusal-requires-2
-    answer-at-requires-2
-    enum-told-3
-    enum-told-4
+    (λ c κs. search needs)
+    (λ c κs. search needs)
+    (λ c. search needs)
+    (λ c. search needs)
     returns-2
-    count-refusal-requires-3
-    answer-at-requires-3
+    (λ c κs. search needs)
+    (λ c κs. search needs)
     returns-3)

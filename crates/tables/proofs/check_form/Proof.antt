@@ -3,17 +3,8 @@ use borrow.Author.Needs.{needs}
 use Rattle.tables.proofs.check_form.Statement.{statement}
 use Rattle.tables.proofs.check_form.Tie as tie
 
-form-refusal-requires : tie.Need-form-refusal-requires
-form-refusal-requires c κs = search needs
-
-add-place : tie.Need-add-place
-add-place c = search needs
-
-answer-at-requires : tie.Need-answer-at-requires
-answer-at-requires c κs = search needs
-
 returns : tie.Need-returns
 returns c = rw (c .before .form-refusal .ensures) at (c .answer-at .ensures)
 
 pub check-form-spec : {M : Type 1} → statement M
-check-form-spec = tie.close (tie.spec form-refusal-requires add-place answer-at-requires returns)
+check-form-spec = tie.close (tie.spec (λ c κs. search needs) (λ c. search needs) (λ c κs. search needs) returns)

@@ -7,23 +7,11 @@ use Rattle.tables.specs.Answers.{countAnswers, formAnswers}
 use Rattle.tables.proofs.check_formulas.Statement.{statement}
 use Rattle.tables.proofs.check_formulas.Tie as tie
 
-check-counts-requires : tie.Need-check-counts-requires
-check-counts-requires c κs = search needs
-
-enum-told : tie.Need-enum-told
-enum-told c = search needs
-
-enum-told-2 : tie.Need-enum-told-2
-enum-told-2 c = search needs
-
 returns : tie.Need-returns
 returns c =
     let n = c .before .before .before .before .args .counts in
     met-stop (countAnswers (n .principals) (n .atoms) (n .formulas)) (formAnswers (n .principals) (n .atoms) (unpack formEntry (n .formulas) (c .before .before .before .before .args .forms .now)))
     (c .before .before .check-counts .result) (c .enum-told2 .given .0 .0) (c .before .before .check-counts .ensures) (c .enum-told2 .given .1)
-
-check-forms-requires : tie.Need-check-forms-requires
-check-forms-requires c κs = search needs
 
 returns-2 : tie.Need-returns-2
 returns-2 c =
@@ -35,4 +23,4 @@ returns-2 c =
 pub check-formulas-spec : {M : Type 1} → statement M
 check-formulas-spec =
     tie.close
-    (tie.spec check-counts-requires enum-told enum-told-2 returns check-forms-requires returns-2)
+    (tie.spec (λ c κs. search needs) (λ c. search needs) (λ c. search needs) returns (λ c κs. search needs) returns-2)

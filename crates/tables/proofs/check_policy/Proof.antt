@@ -11,24 +11,6 @@ use Rattle.tables.specs.Answers.{lineAnswers}
 use Rattle.tables.proofs.check_policy.Statement.{statement}
 use Rattle.tables.proofs.check_policy.Tie as tie
 
-cast-place : tie.Need-cast-place
-cast-place c = search needs
-
-add-place : tie.Need-add-place
-add-place c = search needs
-
-count-refusal-requires : tie.Need-count-refusal-requires
-count-refusal-requires c κs = search needs
-
-answer-at-requires : tie.Need-answer-at-requires
-answer-at-requires c κs = search needs
-
-enum-told : tie.Need-enum-told
-enum-told c = search needs
-
-enum-told-2 : tie.Need-enum-told-2
-enum-told-2 c = search needs
-
 returns : tie.Need-returns
 returns c =
     let a = c .before .before .before .before .before .before .before .args in
@@ -38,9 +20,6 @@ returns c =
     let e : g .result ≡ checkedOf count = rw (c .before .before .before .count-refusal .ensures) at (g .ensures) in
     let all = lineAnswers (a .classes .now) (n .formulas) (unpack lineEntry (n .lines) (a .lines .now)) in
     one-stop count all (g .result) (c .enum-told2 .given .0 .0) e (c .enum-told2 .given .1)
-
-check-lines-requires : tie.Need-check-lines-requires
-check-lines-requires c κs = search needs
 
 returns-2 : tie.Need-returns-2
 returns-2 c =
@@ -56,12 +35,12 @@ pub check-policy-spec : {M : Type 1} → statement M
 check-policy-spec =
     tie.close
     (tie.spec
-    cast-place
-    add-place
-    count-refusal-requires
-    answer-at-requires
-    enum-told
-    enum-told-2
+    (λ c. search needs)
+    (λ c. search needs)
+    (λ c κs. search needs)
+    (λ c κs. search needs)
+    (λ c. search needs)
+    (λ c. search needs)
     returns
-    check-lines-requires
+    (λ c κs. search needs)
     returns-2)

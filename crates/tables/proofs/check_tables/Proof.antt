@@ -1,156 +1,107 @@
 -- `tables::check_tables` meets its contract: part by part, a refusal is the answer where the parts before it are fine, and what is past the
 -- counts decides last.
 use borrow.Author.Needs.{needs}
+use Prim.Native.Nat.{ℕ}
 use mathlib.Core.Path.{_≡_, _∙_}
-use mathlib.Core.List.{_++_}
+use mathlib.Core.List.{List, _++_}
+use Rattle.scope.specs.Tables.{Lent}
+use Rattle.scope.specs.Checked.{checked}
 use Rattle.classes.specs.Class.{classTable}
-use Rattle.tables.specs.Met.{met, lentWith}
+use Rattle.tables.specs.Met.{checkedOf, met, lentWith}
 use Rattle.tables.specs.MetLaws.{met-stop, met-go}
 use Rattle.tables.specs.Whole.{roomPart, linePart, stepPart, pastPart, room-met, room-stop, forms-stop, past-met, after-forms}
 use Rattle.tables.proofs.check_tables.Statement.{statement}
 use Rattle.tables.proofs.check_tables.Tie as tie
 
-room-refusal-requires : tie.Need-room-refusal-requires
-room-refusal-requires c κs = search needs
+abbrev lent : tie.Start → Lent
+lent s = lentWith (s .args .counts) (s .args .forms .now) (s .args .lines .now) (s .args .steps .now)
 
-answer-at-requires : tie.Need-answer-at-requires
-answer-at-requires c κs = search needs
+abbrev classes : tie.Start → List ℕ
+classes s = classTable (s .args .forms .now) (s .args .counts .formulas)
 
-enum-told : tie.Need-enum-told
-enum-told c = search needs
+-- What each check gave, and what is left to decide where it is fine.
+room-gave : (c : tie.After-answer-at) → c .answer-at .result ≡ met (roomPart (lent (c .before .before .before .before .before)))
+room-gave c = room-met (lent (c .before .before .before .before .before)) (c .answer-at .result) (rw (c .before .room-refusal .ensures) at (c .answer-at .ensures))
 
-enum-told-2 : tie.Need-enum-told-2
-enum-told-2 c = search needs
+forms-fine :
+    (c : tie.After-enum-told3)
+    → let s = c .before .before .before .before .before .before .before .before .before .before in
+    met (linePart (lent s) (classes s) ++ (stepPart (lent s) (classes s) ++ pastPart (lent s))) ≡ checkedOf (checked (lent s))
+forms-fine c =
+    let room = c .before .before .before .before .before in
+    let forms = c .before .before .check-formulas in
+    after-forms (lent (c .before .before .before .before .before .before .before .before .before .before)) (room .answer-at .result) (room-gave room) (c .before .before .before .enum-told .given .1) (forms .result) (forms .ensures) (c .enum-told3 .given .1)
+
+policy-gave : (c : tie.After-check-policy) → c .check-policy .result ≡ met (linePart (lent (c .before .before .before .before .before .before .before .before .before .before .before .before .before)) (classes (c .before .before .before .before .before .before .before .before .before .before .before .before .before)))
+policy-gave c = rw (c .before .before .classes-of .ensures) at (c .check-policy .ensures)
+
+policy-fine :
+    (c : tie.After-enum-told5)
+    → let s = c .before .before .before .before .before .before .before .before .before .before .before .before .before .before .before in
+    met (stepPart (lent s) (classes s) ++ pastPart (lent s)) ≡ checkedOf (checked (lent s))
+policy-fine c =
+    let s = c .before .before .before .before .before .before .before .before .before .before .before .before .before .before .before in
+    let policy = c .before .before in
+    met-go (linePart (lent s) (classes s)) (stepPart (lent s) (classes s) ++ pastPart (lent s)) (policy .check-policy .result) (policy-gave policy) (c .enum-told5 .given .1) ∙ forms-fine (c .before .before .before .before .before)
+
+proof-gave : (c : tie.After-check-proof) → c .check-proof .result ≡ met (stepPart (lent (c .before .before .before .before .before .before .before .before .before .before .before .before .before .before .before .before .before)) (classes (c .before .before .before .before .before .before .before .before .before .before .before .before .before .before .before .before .before)))
+proof-gave c = rw (c .before .before .before .before .before .before .classes-of .ensures) at (c .check-proof .ensures)
 
 returns : tie.Need-returns
 returns c =
-    let a = c .before .before .before .before .before .before .before .args in
-    let t = lentWith (a .counts) (a .forms .now) (a .lines .now) (a .steps .now) in
-    let room = c .before .before .answer-at in
-    let roomed : room .result ≡ met (roomPart t) = room-met t (room .result) (rw (c .before .before .before .room-refusal .ensures) at (room .ensures)) in
-    room-stop t (room .result) roomed (c .enum-told2 .given .0 .0) (c .enum-told2 .given .1)
-
-check-formulas-requires : tie.Need-check-formulas-requires
-check-formulas-requires c κs = search needs
-
-enum-told-3 : tie.Need-enum-told-3
-enum-told-3 c = search needs
-
-enum-told-4 : tie.Need-enum-told-4
-enum-told-4 c = search needs
+    let room = c .before .before in
+    room-stop (lent (c .before .before .before .before .before .before .before)) (room .answer-at .result) (room-gave room) (c .enum-told2 .given .0 .0) (c .enum-told2 .given .1)
 
 returns-2 : tie.Need-returns-2
 returns-2 c =
-    let a = c .before .before .before .before .before .before .before .before .before .before .args in
-    let t = lentWith (a .counts) (a .forms .now) (a .lines .now) (a .steps .now) in
-    let room = c .before .before .before .before .before .answer-at in
-    let roomed : room .result ≡ met (roomPart t) = room-met t (room .result) (rw (c .before .before .before .before .before .before .room-refusal .ensures) at (room .ensures)) in
+    let room = c .before .before .before .before .before in
     let forms = c .before .before .check-formulas in
-    forms-stop t (room .result) roomed (c .before .before .before .enum-told .given .1) (forms .result) (forms .ensures) (c .enum-told4 .given .0 .0) (c .enum-told4 .given .1)
-
-classes-of-requires : tie.Need-classes-of-requires
-classes-of-requires c κs = search needs
-
-slice-aggregate-check-policy : tie.Need-slice-aggregate-check-policy
-slice-aggregate-check-policy c = search needs
-
-check-policy-requires : tie.Need-check-policy-requires
-check-policy-requires c κs = search needs
-
-enum-told-5 : tie.Need-enum-told-5
-enum-told-5 c = search needs
-
-enum-told-6 : tie.Need-enum-told-6
-enum-told-6 c = search needs
+    forms-stop (lent (c .before .before .before .before .before .before .before .before .before .before)) (room .answer-at .result) (room-gave room) (c .before .before .before .enum-told .given .1) (forms .result) (forms .ensures) (c .enum-told4 .given .0 .0) (c .enum-told4 .given .1)
 
 returns-3 : tie.Need-returns-3
 returns-3 c =
-    let a = c .before .before .before .before .before .before .before .before .before .before .before .before .before .before .before .args in
-    let t = lentWith (a .counts) (a .forms .now) (a .lines .now) (a .steps .now) in
-    let room = c .before .before .before .before .before .before .before .before .before .before .answer-at in
-    let roomed : room .result ≡ met (roomPart t) = room-met t (room .result) (rw (c .before .before .before .before .before .before .before .before .before .before .before .room-refusal .ensures) at (room .ensures)) in
-    let forms = c .before .before .before .before .before .before .before .check-formulas in
-    let classes = classTable (a .forms .now) (a .counts .formulas) in
-    let rest = after-forms t (room .result) roomed (c .before .before .before .before .before .before .before .before .enum-told .given .1) (forms .result) (forms .ensures) (c .before .before .before .before .before .enum-told3 .given .1) in
-    let same = c .before .before .before .before .classes-of .ensures in
-    let policy : c .before .before .check-policy .result ≡ met (linePart t classes) = rw same at (c .before .before .check-policy .ensures) in
-    met-stop (linePart t classes) (stepPart t classes ++ pastPart t) (c .before .before .check-policy .result) (c .enum-told6 .given .0 .0) policy (c .enum-told6 .given .1) ∙ rest
-
-slice-aggregate-check-proof : tie.Need-slice-aggregate-check-proof
-slice-aggregate-check-proof c = search needs
-
-check-proof-requires : tie.Need-check-proof-requires
-check-proof-requires c κs = search needs
-
-enum-told-7 : tie.Need-enum-told-7
-enum-told-7 c = search needs
-
-enum-told-8 : tie.Need-enum-told-8
-enum-told-8 c = search needs
+    let s = c .before .before .before .before .before .before .before .before .before .before .before .before .before .before .before in
+    let policy = c .before .before in
+    met-stop (linePart (lent s) (classes s)) (stepPart (lent s) (classes s) ++ pastPart (lent s)) (policy .check-policy .result) (c .enum-told6 .given .0 .0) (policy-gave policy) (c .enum-told6 .given .1) ∙ forms-fine (c .before .before .before .before .before)
 
 returns-4 : tie.Need-returns-4
 returns-4 c =
-    let a = c .before .before .before .before .before .before .before .before .before .before .before .before .before .before .before .before .before .before .before .args in
-    let t = lentWith (a .counts) (a .forms .now) (a .lines .now) (a .steps .now) in
-    let room = c .before .before .before .before .before .before .before .before .before .before .before .before .before .before .answer-at in
-    let roomed : room .result ≡ met (roomPart t) = room-met t (room .result) (rw (c .before .before .before .before .before .before .before .before .before .before .before .before .before .before .before .room-refusal .ensures) at (room .ensures)) in
-    let forms = c .before .before .before .before .before .before .before .before .before .before .before .check-formulas in
-    let classes = classTable (a .forms .now) (a .counts .formulas) in
-    let rest = after-forms t (room .result) roomed (c .before .before .before .before .before .before .before .before .before .before .before .before .enum-told .given .1) (forms .result) (forms .ensures) (c .before .before .before .before .before .before .before .before .before .enum-told3 .given .1) in
-    let same = c .before .before .before .before .before .before .before .before .classes-of .ensures in
-    let policy : c .before .before .before .before .before .before .check-policy .result ≡ met (linePart t classes) = rw same at (c .before .before .before .before .before .before .check-policy .ensures) in
-    let proof : c .before .before .check-proof .result ≡ met (stepPart t classes) = rw same at (c .before .before .check-proof .ensures) in
-    met-stop (stepPart t classes) (pastPart t) (c .before .before .check-proof .result) (c .enum-told8 .given .0 .0) proof (c .enum-told8 .given .1) ∙
-    met-go (linePart t classes) (stepPart t classes ++ pastPart t) (c .before .before .before .before .before .before .check-policy .result) policy (c .before .before .before .before .enum-told5 .given .1) ∙
-    rest
-
-past-refusal-requires : tie.Need-past-refusal-requires
-past-refusal-requires c κs = search needs
-
-answer-at-requires-2 : tie.Need-answer-at-requires-2
-answer-at-requires-2 c κs = search needs
+    let s = c .before .before .before .before .before .before .before .before .before .before .before .before .before .before .before .before .before .before .before in
+    let proof = c .before .before in
+    met-stop (stepPart (lent s) (classes s)) (pastPart (lent s)) (proof .check-proof .result) (c .enum-told8 .given .0 .0) (proof-gave proof) (c .enum-told8 .given .1) ∙ policy-fine (c .before .before .before .before)
 
 returns-5 : tie.Need-returns-5
 returns-5 c =
-    let a = c .before .before .before .before .before .before .before .before .before .before .before .before .before .before .before .before .before .before .before .before .before .args in
-    let t = lentWith (a .counts) (a .forms .now) (a .lines .now) (a .steps .now) in
-    let room = c .before .before .before .before .before .before .before .before .before .before .before .before .before .before .before .before .answer-at in
-    let roomed : room .result ≡ met (roomPart t) = room-met t (room .result) (rw (c .before .before .before .before .before .before .before .before .before .before .before .before .before .before .before .before .before .room-refusal .ensures) at (room .ensures)) in
-    let forms = c .before .before .before .before .before .before .before .before .before .before .before .before .before .check-formulas in
-    let classes = classTable (a .forms .now) (a .counts .formulas) in
-    let rest = after-forms t (room .result) roomed (c .before .before .before .before .before .before .before .before .before .before .before .before .before .before .enum-told .given .1) (forms .result) (forms .ensures) (c .before .before .before .before .before .before .before .before .before .before .before .enum-told3 .given .1) in
-    let same = c .before .before .before .before .before .before .before .before .before .before .classes-of .ensures in
-    let policy : c .before .before .before .before .before .before .before .before .check-policy .result ≡ met (linePart t classes) = rw same at (c .before .before .before .before .before .before .before .before .check-policy .ensures) in
-    let proof : c .before .before .before .before .check-proof .result ≡ met (stepPart t classes) = rw same at (c .before .before .before .before .check-proof .ensures) in
-    past-met t (c .answer-at2 .result) (rw (c .before .past-refusal .ensures) at (c .answer-at2 .ensures)) ∙
-    met-go (stepPart t classes) (pastPart t) (c .before .before .before .before .check-proof .result) proof (c .before .before .enum-told7 .given .1) ∙
-    met-go (linePart t classes) (stepPart t classes ++ pastPart t) (c .before .before .before .before .before .before .before .before .check-policy .result) policy (c .before .before .before .before .before .before .enum-told5 .given .1) ∙
-    rest
+    let s = c .before .before .before .before .before .before .before .before .before .before .before .before .before .before .before .before .before .before .before .before .before in
+    let proof = c .before .before .before .before in
+    past-met (lent s) (c .answer-at2 .result) (rw (c .before .past-refusal .ensures) at (c .answer-at2 .ensures)) ∙
+    met-go (stepPart (lent s) (classes s)) (pastPart (lent s)) (proof .check-proof .result) (proof-gave proof) (c .before .before .enum-told7 .given .1) ∙
+    policy-fine (c .before .before .before .before .before .before)
 
 pub check-tables-spec : {M : Type 1} → statement M
 check-tables-spec =
     tie.close
     (tie.spec
-    room-refusal-requires
-    answer-at-requires
-    enum-told
-    enum-told-2
+    (λ c κs. search needs)
+    (λ c κs. search needs)
+    (λ c. search needs)
+    (λ c. search needs)
     returns
-    check-formulas-requires
-    enum-told-3
-    enum-told-4
+    (λ c κs. search needs)
+    (λ c. search needs)
+    (λ c. search needs)
     returns-2
-    classes-of-requires
-    slice-aggregate-check-policy
-    check-policy-requires
-    enum-told-5
-    enum-told-6
+    (λ c κs. search needs)
+    (λ c. search needs)
+    (λ c κs. search needs)
+    (λ c. search needs)
+    (λ c. search needs)
     returns-3
-    slice-aggregate-check-proof
-    check-proof-requires
-    enum-told-7
-    enum-told-8
+    (λ c. search needs)
+    (λ c κs. search needs)
+    (λ c. search needs)
+    (λ c. search needs)
     returns-4
-    past-refusal-requires
-    answer-at-requires-2
+    (λ c κs. search needs)
+    (λ c κs. search needs)
     returns-5)

@@ -14,23 +14,8 @@ Inv-loop table from i₀ i = allZero (drop from table) ≡ allZero (drop i table
 abbrev μ-loop : tie.MeasureT-loop
 μ-loop table from i₀ i = length table - i
 
-loop-holds : tie.Need-loop-holds Inv-loop μ-loop
-loop-holds c = search needs
-
-mul-if1 : tie.Need-mul-if1 Inv-loop μ-loop
-mul-if1 c = search needs
-
-shared-slice-read-if1 : tie.Need-shared-slice-read-if1 Inv-loop μ-loop
-shared-slice-read-if1 c = search needs
-
 returns : tie.Need-returns Inv-loop μ-loop
 returns c = sym (c .before .before .before .loop .inv ∙ zeros-stop (c .before .before .before .before .args .table .now) (c .before .before .before .loop .i) (c .before .before .loop-test .taken) (c .if1 .taken))
-
-add-i : tie.Need-add-i Inv-loop μ-loop
-add-i c = search needs
-
-loop-less : tie.Need-loop-less Inv-loop μ-loop
-loop-less c = search needs
 
 loop-again : tie.Need-loop-again Inv-loop μ-loop
 loop-again c = c .before .before .before .loop .inv ∙ zeros-more (c .before .before .before .before .args .table .now) (c .before .before .before .loop .i) (c .before .before .loop-test .taken) (c .if1 .left)
@@ -44,11 +29,11 @@ zero-from-spec =
     (tie.spec
     Inv-loop
     μ-loop
-    loop-holds
-    mul-if1
-    shared-slice-read-if1
+    (λ c. search needs)
+    (λ c. search needs)
+    (λ c. search needs)
     returns
-    add-i
-    loop-less
+    (λ c. search needs)
+    (λ c. search needs)
     loop-again
     returns-2)

@@ -4,12 +4,6 @@ use Rattle.writer.specs.Writing.{refusedAs}
 use Rattle.writer.proofs.refused_as.Statement.{statement}
 use Rattle.writer.proofs.refused_as.Tie as tie
 
-enum-told : tie.Need-enum-told
-enum-told c = search needs
-
-enum-known-checked : tie.Need-enum-known-checked
-enum-known-checked c = search needs
-
 returns : tie.Need-returns
 unfolding refusedAs
 returns c = rw (c .enum-told .given .1)
@@ -19,4 +13,4 @@ unfolding refusedAs
 returns-2 c = rw (c .before .checked .given .1)
 
 pub refused-as-spec : {M : Type 1} → statement M
-refused-as-spec = tie.close (tie.spec enum-told enum-known-checked returns returns-2)
+refused-as-spec = tie.close (tie.spec (λ c. search needs) (λ c. search needs) returns returns-2)

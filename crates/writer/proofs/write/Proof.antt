@@ -1,7 +1,7 @@
 -- `writer::write` meets its contract: the output is zero first, a refusal leaves it so, and a text that fits stands at its beginning.
 use borrow.Author.Needs.{needs}
 use native.Mathlib.Omega.{arith}
-use Prim.Native.Nat.{ℕ, _<_, _≤_}
+use Prim.Native.Nat.{ℕ, _+_, _<_, _≤_}
 use mathlib.Core.Path.{_≡_, ap, _∙_}
 use mathlib.Core.List.{List}
 use lib.ListN.{length, replicate}
@@ -14,23 +14,12 @@ use Rattle.writer.specs.Writing.{ends-refused, ends-short, ends-written}
 use Rattle.writer.proofs.write.Statement.{statement}
 use Rattle.writer.proofs.write.Tie as tie
 
-zero-all-requires : tie.Need-zero-all-requires
-zero-all-requires c κs = search needs
+-- The text of m bytes ends at n, past the end of an output of len bytes or within it.
+too-short : {a len n m : ℕ} → a ≡ len → n ≡ 0 + m → a < n → len < m
+too-short e k h = omega arith
 
-check-tables-requires : tie.Need-check-tables-requires
-check-tables-requires c κs = search needs
-
-enum-told : tie.Need-enum-told
-enum-told c = search needs
-
-enum-told-2 : tie.Need-enum-told-2
-enum-told-2 c = search needs
-
-refused-as-requires : tie.Need-refused-as-requires
-refused-as-requires c κs = search needs
-
-same-length : tie.Need-same-length
-same-length c = search needs
+long-enough : {a len n m : ℕ} → a ≡ len → n ≡ 0 + m → n ≤ a → (n ≡ m) × (m ≤ len)
+long-enough e k h = (omega arith, omega arith)
 
 returns : tie.Need-returns
 returns c =
@@ -41,15 +30,6 @@ returns c =
     let all = ends-refused t (length (a .out .now)) (checks .result) (told .0 .0) (checks .ensures) (told .1) in
     (c .refused-as .ensures ∙ all .0, c .before .before .before .before .before .before .zero-all .ensures ∙ all .1)
 
-put-request-requires : tie.Need-put-request-requires
-put-request-requires c κs = search needs
-
-zero-all-requires-2 : tie.Need-zero-all-requires-2
-zero-all-requires-2 c κs = search needs
-
-same-length-2 : tie.Need-same-length-2
-same-length-2 c = search needs
-
 returns-2 : tie.Need-returns-2
 returns-2 c =
     let a = c .before .before .before .before .before .before .before .before .before .before .before .before .before .before .before .before .before .before .before .before .args in
@@ -59,12 +39,9 @@ returns-2 c =
     let checks = c .before .before .before .before .before .before .before .before .before .before .before .check-tables in
     let put = c .before .before .before .before .before .before .before .put-request in
     let same : length (put .last .1 .1 .1 .1 .0) ≡ len = put .kept .1 .1 .1 .1 .0 ∙ zero .kept .0 in
-    let short : len < length (requestText (requestOf t)) = omega (arith, same, put .ensures .counted, c .before .before .before .before .if1 .taken) in
+    let short : len < length (requestText (requestOf t)) = too-short {m = length (requestText (requestOf t))} same (put .ensures .counted) (c .before .before .before .before .if1 .taken) in
     let all = ends-short t len (checks .result) (checks .ensures) (c .before .before .before .before .before .before .before .before .before .enum-told .given .1) short in
     (all .0, c .before .before .zero-all2 .ensures ∙ ap (λ (n : ℕ). replicate n 0) same ∙ all .1)
-
-same-length-3 : tie.Need-same-length-3
-same-length-3 c = search needs
 
 returns-3 : tie.Need-returns-3
 returns-3 c =
@@ -76,26 +53,25 @@ returns-3 c =
     let checks = c .before .before .before .before .before .before .before .check-tables in
     let put = c .before .before .before .put-request in
     let same : length (put .last .1 .1 .1 .1 .0) ≡ len = put .kept .1 .1 .1 .1 .0 ∙ zero .kept .0 in
-    let end : put .result ≡ length text = omega (arith, put .ensures .counted) in
-    let fits : length text ≤ len = omega (arith, same, end, c .if1 .left) in
-    let all = ends-written t len (put .result) (checks .result) (checks .ensures) (c .before .before .before .before .before .enum-told .given .1) end fits in
-    let put-zeros : sets (zero .last .0) 0 text ≡ padded len text = ap (λ (z : List ℕ). sets z 0 text) (zero .ensures) ∙ puts-zeros len text fits in
+    let fits : (put .result ≡ length text) × (length text ≤ len) = long-enough {m = length text} same (put .ensures .counted) (c .if1 .left) in
+    let all = ends-written t len (put .result) (checks .result) (checks .ensures) (c .before .before .before .before .before .enum-told .given .1) (fits .0) (fits .1) in
+    let put-zeros : sets (zero .last .0) 0 text ≡ padded len text = ap (λ (z : List ℕ). sets z 0 text) (zero .ensures) ∙ puts-zeros len text (fits .1) in
     (all .0, put .ensures .stored ∙ put-zeros ∙ all .1)
 
 pub write-spec : {M : Type 1} → statement M
 write-spec =
     tie.close
     (tie.spec
-    zero-all-requires
-    check-tables-requires
-    enum-told
-    enum-told-2
-    refused-as-requires
-    same-length
+    (λ c κs. search needs)
+    (λ c κs. search needs)
+    (λ c. search needs)
+    (λ c. search needs)
+    (λ c κs. search needs)
+    (λ c. search needs)
     returns
-    put-request-requires
-    zero-all-requires-2
-    same-length-2
+    (λ c κs. search needs)
+    (λ c κs. search needs)
+    (λ c. search needs)
     returns-2
-    same-length-3
+    (λ c. search needs)
     returns-3)

@@ -5,18 +5,9 @@ use Rattle.writer.specs.Lines.{digits3}
 use Rattle.writer.proofs.digits.put_three.Statement.{statement}
 use Rattle.writer.proofs.digits.put_three.Tie as tie
 
-put-two-requires : tie.Need-put-two-requires
-put-two-requires c κs = search needs
-
-put-digit-requires : tie.Need-put-digit-requires
-put-digit-requires c κs = search needs
-
-same-length : tie.Need-same-length
-same-length c = search needs
-
 returns : tie.Need-returns
 unfolding digits3
 returns c = puts-then (c .before .before .before .before .before .before .put-two .ensures) (c .before .before .put-digit .ensures)
 
 pub put-three-spec : {M : Type 1} → statement M
-put-three-spec = tie.close (tie.spec put-two-requires put-digit-requires same-length returns)
+put-three-spec = tie.close (tie.spec (λ c κs. search needs) (λ c κs. search needs) (λ c. search needs) returns)

@@ -22,21 +22,6 @@ loop-holds c =
     let a = c .before .before .args in
     (omega arith, ap (λ (k : ℕ). sets (a .out .now) k (a .text .now)) (add-zero (a .at)), refl)
 
-add-next : tie.Need-add-next Inv-loop μ-loop
-add-next c = search needs
-
-shared-slice-read-put-byte : tie.Need-shared-slice-read-put-byte Inv-loop μ-loop
-shared-slice-read-put-byte c = search needs
-
-put-byte-requires : tie.Need-put-byte-requires Inv-loop μ-loop
-put-byte-requires c κs = search needs
-
-add-i : tie.Need-add-i Inv-loop μ-loop
-add-i c = search needs
-
-loop-less : tie.Need-loop-less Inv-loop μ-loop
-loop-less c = search needs
-
 loop-again : tie.Need-loop-again Inv-loop μ-loop
 loop-again c =
     let a = c .before .before .before .before .before .before .before .before .before .args in
@@ -47,9 +32,6 @@ loop-again c =
           puts-more (a .out .now) (l .out) (a .text .now) (a .at) (l .i) (c .before .before .before .before .before .loop-test .taken) (l .inv .1),
       p .kept .0 ∙ l .inv .2,
     )
-
-add-result : tie.Need-add-result Inv-loop μ-loop
-add-result c = search needs
 
 same-length : tie.Need-same-length Inv-loop μ-loop
 same-length c = c .before .loop .inv .2
@@ -72,12 +54,12 @@ put-bytes-spec =
     Inv-loop
     μ-loop
     loop-holds
-    add-next
-    shared-slice-read-put-byte
-    put-byte-requires
-    add-i
-    loop-less
+    (λ c. search needs)
+    (λ c. search needs)
+    (λ c κs. search needs)
+    (λ c. search needs)
+    (λ c. search needs)
     loop-again
-    add-result
+    (λ c. search needs)
     same-length
     returns)

@@ -9,27 +9,6 @@ use Rattle.refusals.specs.Rows.{row}
 use Rattle.writer.proofs.lines.put_form.Statement.{statement}
 use Rattle.writer.proofs.lines.put_form.Tie as tie
 
-slice-aggregate-put-bytes : tie.Need-slice-aggregate-put-bytes
-slice-aggregate-put-bytes c = search needs
-
-put-bytes-requires : tie.Need-put-bytes-requires
-put-bytes-requires c κs = search needs
-
-put-form-word-requires : tie.Need-put-form-word-requires
-put-form-word-requires c κs = search needs
-
-form-operands-requires : tie.Need-form-operands-requires
-form-operands-requires c κs = search needs
-
-put-operands-requires : tie.Need-put-operands-requires
-put-operands-requires c κs = search needs
-
-put-byte-requires : tie.Need-put-byte-requires
-put-byte-requires c κs = search needs
-
-same-length : tie.Need-same-length
-same-length c = search needs
-
 returns : tie.Need-returns
 returns c =
     let a = c .before .before .before .before .before .before .before .before .before .before .before .before .before .before .before .before .before .before .before .args in
@@ -43,11 +22,11 @@ pub put-form-spec : {M : Type 1} → statement M
 put-form-spec =
     tie.close
     (tie.spec
-    slice-aggregate-put-bytes
-    put-bytes-requires
-    put-form-word-requires
-    form-operands-requires
-    put-operands-requires
-    put-byte-requires
-    same-length
+    (λ c. search needs)
+    (λ c κs. search needs)
+    (λ c κs. search needs)
+    (λ c κs. search needs)
+    (λ c κs. search needs)
+    (λ c κs. search needs)
+    (λ c. search needs)
     returns)

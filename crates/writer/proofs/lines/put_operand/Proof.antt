@@ -5,18 +5,9 @@ use Rattle.writer.specs.Lines.{operandText}
 use Rattle.writer.proofs.lines.put_operand.Statement.{statement}
 use Rattle.writer.proofs.lines.put_operand.Tie as tie
 
-put-byte-requires : tie.Need-put-byte-requires
-put-byte-requires c κs = search needs
-
-put-number-requires : tie.Need-put-number-requires
-put-number-requires c κs = search needs
-
-same-length : tie.Need-same-length
-same-length c = search needs
-
 returns : tie.Need-returns
 unfolding operandText
 returns c = puts-then (c .before .before .before .before .before .before .put-byte .ensures) (c .before .before .put-number .ensures)
 
 pub put-operand-spec : {M : Type 1} → statement M
-put-operand-spec = tie.close (tie.spec put-byte-requires put-number-requires same-length returns)
+put-operand-spec = tie.close (tie.spec (λ c κs. search needs) (λ c κs. search needs) (λ c. search needs) returns)

@@ -11,21 +11,9 @@ returns : tie.Need-returns
 unfolding operandsText
 returns c = rw (c .if1 .taken) (puts-same refl (omega arith) (puts-none (c .before .before .args .out .now) (c .before .before .args .at)))
 
-put-operand-requires : tie.Need-put-operand-requires
-put-operand-requires c κs = search needs
-
-same-length : tie.Need-same-length
-same-length c = search needs
-
 returns-2 : tie.Need-returns-2
 unfolding operandsText
 returns-2 c = rw (c .if2 .taken) (puts-same refl (omega arith) (c .before .before .before .put-operand .ensures))
-
-put-operand-requires-2 : tie.Need-put-operand-requires-2
-put-operand-requires-2 c κs = search needs
-
-same-length-2 : tie.Need-same-length-2
-same-length-2 c = search needs
 
 returns-3 : tie.Need-returns-3
 returns-3 c =
@@ -38,9 +26,9 @@ put-operands-spec =
     tie.close
     (tie.spec
     returns
-    put-operand-requires
-    same-length
+    (λ c κs. search needs)
+    (λ c. search needs)
     returns-2
-    put-operand-requires-2
-    same-length-2
+    (λ c κs. search needs)
+    (λ c. search needs)
     returns-3)

@@ -9,27 +9,6 @@ use Rattle.refusals.specs.Rows.{row}
 use Rattle.writer.proofs.lines.put_step.Statement.{statement}
 use Rattle.writer.proofs.lines.put_step.Tie as tie
 
-slice-aggregate-put-bytes : tie.Need-slice-aggregate-put-bytes
-slice-aggregate-put-bytes c = search needs
-
-put-bytes-requires : tie.Need-put-bytes-requires
-put-bytes-requires c κs = search needs
-
-put-step-word-requires : tie.Need-put-step-word-requires
-put-step-word-requires c κs = search needs
-
-step-operands-requires : tie.Need-step-operands-requires
-step-operands-requires c κs = search needs
-
-put-operands-requires : tie.Need-put-operands-requires
-put-operands-requires c κs = search needs
-
-put-byte-requires : tie.Need-put-byte-requires
-put-byte-requires c κs = search needs
-
-same-length : tie.Need-same-length
-same-length c = search needs
-
 returns : tie.Need-returns
 returns c =
     let a = c .before .before .before .before .before .before .before .before .before .before .before .before .before .before .before .before .before .before .before .args in
@@ -43,11 +22,11 @@ pub put-step-spec : {M : Type 1} → statement M
 put-step-spec =
     tie.close
     (tie.spec
-    slice-aggregate-put-bytes
-    put-bytes-requires
-    put-step-word-requires
-    step-operands-requires
-    put-operands-requires
-    put-byte-requires
-    same-length
+    (λ c. search needs)
+    (λ c κs. search needs)
+    (λ c κs. search needs)
+    (λ c κs. search needs)
+    (λ c κs. search needs)
+    (λ c κs. search needs)
+    (λ c. search needs)
     returns)

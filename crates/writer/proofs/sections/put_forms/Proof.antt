@@ -1,77 +1,25 @@
 -- `writer::sections::put_forms` meets its contract: in turn i the lines of the first i are put, and line i stands behind them.
 use borrow.Author.Needs.{needs}
-use native.Mathlib.Omega.{arith}
-use Prim.Native.Nat.{ℕ, _-_, _≤_, _*_}
-use mathlib.Core.Path.{_≡_, refl, ap, _∙_}
-use lib.ListN.{length}
+use Prim.Native.Nat.{_-_}
 use Rattle.scope.specs.Text.{formLine}
 use Rattle.scope.specs.Tables.{formEntry}
-use Rattle.classes.specs.Rows.{formRow, form-row}
-use Rattle.writer.specs.Puts.{Puts, puts-same}
-use Rattle.writer.specs.Sections.{tableText, table-none, table-more}
+use Rattle.classes.specs.Rows.{form-row}
+use Rattle.writer.specs.Sections.{LinesPut, lines-none, lines-more, lines-all}
 use Rattle.writer.proofs.sections.put_forms.Statement.{statement}
 use Rattle.writer.proofs.sections.put_forms.Tie as tie
 
 abbrev Inv-loop : tie.InvT-loop
-Inv-loop out₀ at count forms end₀ i₀ out end i = (i ≤ count) × Puts out₀ at (tableText formLine formEntry i forms) (45 * i) out end × (length out ≡ length out₀)
+Inv-loop out₀ at count forms end₀ i₀ out end i = LinesPut formLine formEntry 45 count forms out₀ at i out end
 
 abbrev μ-loop : tie.MeasureT-loop
 μ-loop out₀ at count forms end₀ i₀ out end i = count - i
-
-loop-holds : tie.Need-loop-holds Inv-loop μ-loop
-loop-holds c =
-    let a = c .before .before .args in
-    (omega arith, table-none formLine formEntry 45 (a .forms .now) (a .out .now) (a .at), refl)
-
-cast-first : tie.Need-cast-first Inv-loop μ-loop
-cast-first c = search needs
-
-mul-first : tie.Need-mul-first Inv-loop μ-loop
-mul-first c = search needs
-
-entry-at-requires : tie.Need-entry-at-requires Inv-loop μ-loop
-entry-at-requires c κs = search needs
-
-add-entry-at : tie.Need-add-entry-at Inv-loop μ-loop
-add-entry-at c = search needs
-
-entry-at-requires-2 : tie.Need-entry-at-requires-2 Inv-loop μ-loop
-entry-at-requires-2 c κs = search needs
-
-add-entry-at-2 : tie.Need-add-entry-at-2 Inv-loop μ-loop
-add-entry-at-2 c = search needs
-
-entry-at-requires-3 : tie.Need-entry-at-requires-3 Inv-loop μ-loop
-entry-at-requires-3 c κs = search needs
-
-put-form-requires : tie.Need-put-form-requires Inv-loop μ-loop
-put-form-requires c κs = search needs
-
-add-i : tie.Need-add-i Inv-loop μ-loop
-add-i c = search needs
-
-loop-less : tie.Need-loop-less Inv-loop μ-loop
-loop-less c = search needs
 
 loop-again : tie.Need-loop-again Inv-loop μ-loop
 loop-again c =
     let t = c .before .before .before .before .before .before .before .before .before .before .before .args .forms .now in
     let l = c .before .before .before .before .before .before .before .before .loop in
-    let p = c .before .before .put-form in (
-      omega arith,
-      table-more formLine formEntry 45 (l .i) t (formRow t (l .i)) (form-row t (l .i)) (l .inv .1) (rw (c .before .before .before .before .before .before .entry-at .ensures, c .before .before .before .before .before .entry-at2 .ensures, c .before .before .before .before .entry-at3 .ensures) at (p .ensures)),
-      p .kept .0 ∙ l .inv .2,
-    )
-
-same-length : tie.Need-same-length Inv-loop μ-loop
-same-length c = c .before .loop .inv .2
-
-returns : tie.Need-returns Inv-loop μ-loop
-returns c =
-    let a = c .before .before .before .before .args in
-    let l = c .before .loop in
-    let e : l .i ≡ a .count = omega arith in
-    puts-same (ap (λ (k : ℕ). tableText formLine formEntry k (a .forms .now)) e) (omega arith) (l .inv .1)
+    let p = c .before .before .put-form in
+    lines-more (l .inv) (c .before .before .before .before .before .before .before .loop-test .taken) (form-row t (l .i)) (rw (c .before .before .before .before .before .before .entry-at .ensures, c .before .before .before .before .before .entry-at2 .ensures, c .before .before .before .before .entry-at3 .ensures) at (p .ensures)) (p .kept .0)
 
 pub put-forms-spec : {M : Type 1} → statement M
 put-forms-spec =
@@ -79,17 +27,17 @@ put-forms-spec =
     (tie.spec
     Inv-loop
     μ-loop
-    loop-holds
-    cast-first
-    mul-first
-    entry-at-requires
-    add-entry-at
-    entry-at-requires-2
-    add-entry-at-2
-    entry-at-requires-3
-    put-form-requires
-    add-i
-    loop-less
+    (λ c. lines-none)
+    (λ c. search needs)
+    (λ c. search needs)
+    (λ c κs. search needs)
+    (λ c. search needs)
+    (λ c κs. search needs)
+    (λ c. search needs)
+    (λ c κs. search needs)
+    (λ c κs. search needs)
+    (λ c. search needs)
+    (λ c. search needs)
     loop-again
-    same-length
-    returns)
+    (λ c. c .before .loop .inv .long)
+    (λ c. lines-all (c .before .loop .inv) (c .loop-test .left)))
