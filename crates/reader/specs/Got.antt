@@ -1,18 +1,19 @@
 -- What an answer of the code says of the reading that it stands for.
 use Prim.Native.Nat.{ℕ, _-_}
-use native.Mathlib.Omega.{arith}
 use mathlib.Core.Path.{_≡_, refl, ap, _∙_}
 use mathlib.Core.List.{List}
 use lib.ListN.{length, take, drop}
 use Rattle.scope.specs.Tests.{never}
 use Rattle.scope.specs.Request.{Row}
 use Rattle.scope.specs.Line.{Read, ok, bad, Reader}
+use Rattle.scope.specs.Tables.{Entry, table}
 use Rattle.lines.specs.Parts.{tail-part}
 use Rattle.counts.specs.declared.Refusal.{Refusal}
 use Rattle.reader.specs.Sections.{Counted, Formulas, PolicyRead}
 use Rattle.reader.specs.Answers.{sectionOf, headOf, formulasOf, policyOf, stepsOf}
 use Rattle.reader.specs.Many.{Ends, tail-drop}
 use Rattle.reader.specs.declared.Section.the-variants as Section
+use Rattle.reader.specs.declared.Head.{Head}
 use Rattle.reader.specs.declared.Head.the-variants as Head
 use Rattle.reader.specs.declared.Policy.the-variants as Policy
 use Rattle.reader.specs.declared.Steps.the-variants as Steps
@@ -42,6 +43,14 @@ section-lost n (ok xs rest) x e = never cc
 section-lost {A} n (bad k i) x e =
     let f : record { number = k; place = i } ≡ x = cc in
     ap {B = Read (List A)} (λ (y : Refusal). bad (y .number) (y .place)) f
+
+-- A section that was read, and its things in a table.
+pub record Section-kept {A : Type 0} (e : Entry A) (n : ℕ) (r : Read (List A)) : Type 0 where
+  pub at : ℕ
+  pub is : sectionOf n r ≡ Section.Read at
+  pub numbers : List ℕ
+  pub len : ℕ
+  pub stored : (things : List A) (rest : List ℕ) → r ≡ ok things rest → numbers ≡ table e len things
 
 pub record Head-got (n : ℕ) (r : Read Counted) (p a f at : ℕ) : Type 0 where
   pub rest : List ℕ
@@ -126,18 +135,28 @@ steps-lost n (bad k i) x e =
     let f : record { number = k; place = i } ≡ x = cc in
     ap {B = Read (List Row)} (λ (y : Refusal). bad (y .number) (y .place)) f
 
--- The answers that a reading gives.
-pub formulas-refused : (n : ℕ) (r : Read Formulas) (x : Refusal) → r ≡ bad (x .number) (x .place) → Head.Refused x ≡ formulasOf n r
-unfolding formulasOf
-formulas-refused n r x e = rw e refl
+pub never-both : {A : Type 0} {X : Type 0} (r : Read A) (k i : ℕ) (a : A) (rest : List ℕ) → r ≡ bad k i → r ≡ ok a rest → X
+never-both r k i a rest e f = never cc
 
-pub policy-refused : (n : ℕ) (r : Read PolicyRead) (x : Refusal) → r ≡ bad (x .number) (x .place) → Policy.Refused x ≡ policyOf n r
-unfolding policyOf
-policy-refused n r x e = rw e refl
+pub same-things : {A : Type 0} (r : Read A) (a b : A) (s t : List ℕ) → r ≡ ok a s → r ≡ ok b t → a ≡ b
+same-things r a b s t e f = cc
 
-pub steps-refused : (n : ℕ) (r : Read (List Row)) (x : Refusal) → r ≡ bad (x .number) (x .place) → Steps.Refused x ≡ stepsOf n r
-unfolding stepsOf
-steps-refused n r x e = rw e refl
+-- The answers that a reading gives. A refusal says nothing of what was read.
+module _ {X : Formulas → List ℕ → Type 0} (n : ℕ) (r : Read Formulas) (x : Refusal) (e : r ≡ bad (x .number) (x .place)) where
+  pub formulas-refused : (h : Head) → h ≡ Head.Refused x → (h ≡ formulasOf n r) × ((f : Formulas) (rest : List ℕ) → r ≡ ok f rest → X f rest)
+  unfolding formulasOf
+  formulas-refused h d = (d ∙ rw e refl, λ f rest g. never-both r (x .number) (x .place) f rest e g)
+
+module _ {X : PolicyRead → List ℕ → Type 0} (n : ℕ) (r : Read PolicyRead) (x : Refusal) (e : r ≡ bad (x .number) (x .place)) where
+  pub policy-refused : (y : Refusal) → y ≡ x → (Policy.Refused y ≡ policyOf n r) × ((p : PolicyRead) (rest : List ℕ) → r ≡ ok p rest → X p rest)
+  unfolding policyOf
+  policy-refused y d = (ap Policy.Refused d ∙ rw e refl, λ p rest g. never-both r (x .number) (x .place) p rest e g)
+
+module _ {X : List Row → List ℕ → Type 0} (n : ℕ) (r : Read (List Row)) (x : Refusal) (e : r ≡ bad (x .number) (x .place)) where
+  pub steps-refused : (y : Refusal) → y ≡ x → (Steps.Refused y ≡ stepsOf n r)
+      × ((rows : List Row) (rest : List ℕ) → r ≡ ok rows rest → X rows rest)
+  unfolding stepsOf
+  steps-refused y d = (ap Steps.Refused d ∙ rw e refl, λ rows rest g. never-both r (x .number) (x .place) rows rest e g)
 
 pub formulas-read : (n : ℕ) (r : Read Formulas) (p a f at : ℕ) (forms : List Row) (rest : List ℕ) → r
     ≡ ok record { principals = p; atoms = a; forms = forms } rest

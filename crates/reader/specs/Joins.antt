@@ -1,7 +1,7 @@
 -- Sections from the lines and loops that they consist of.
 use Prim.Native.Nat.{ℕ, _+_, _-_, _≤_}
 use native.Mathlib.Omega.{arith}
-use mathlib.Core.Path.{_≡_, refl, ap, sym, subst, _∙_}
+use mathlib.Core.Path.{_≡_, refl, ap, sym, _∙_}
 use mathlib.Core.List.{List, []}
 use mathlib.Core.Bool.{Bool, true, false}
 use lib.Dec.{ltb}
@@ -14,23 +14,26 @@ use Rattle.scope.specs.Line.{Read, ok, bad, judged, line, after, _>>=_, many}
 use Rattle.scope.specs.Limits.{mostFormulas, clausesAt, clauseAt, goalAt, stepsAt}
 use Rattle.scope.specs.Refusals.{demand, countRefusal, clausesRefusal, stepsRefusal, clauseRefusal, goalRefusal}
 use Rattle.scope.specs.Text.{clausesLine, clauseLine, goalLine, stepsLine}
-use Rattle.scope.specs.Tables.{formEntry, unpack}
+use Rattle.scope.specs.Tables.{formEntry, lineEntry, stepEntry, table, unpack}
 use Rattle.scope.specs.Reader.{formItem, clauseItem, stepItem}
 use Rattle.classes.specs.Class.{goalIn, policyIn, classTable}
 use Rattle.classes.specs.Rows.{unpack-length}
 use Rattle.classes.specs.Laws.{goal-at, policy-at}
 use Rattle.lines.specs.Parts.{valueOf, restOf}
 use Rattle.counts.specs.declared.Refusal.{Refusal}
-use Rattle.reader.specs.Sections.{Counted, headPart, formulasPart, policyPart, stepsPart, classRefusal, classedItem}
-use Rattle.reader.specs.Answers.{numberLineOf, sectionOf, headOf}
+use Rattle.reader.specs.Sections.{Counted, Formulas, PolicyRead, headPart, formulasPart, policyPart, stepsPart, classRefusal, classedItem}
+use Rattle.reader.specs.Answers.{numberLineOf, sectionOf, headOf, formulasOf, policyOf, stepsOf}
 use Rattle.reader.specs.Lines.{number-ok, number-bad}
 use Rattle.reader.specs.Many.{Ends, line-ends, many-ends, many-length, tail-length}
 use Rattle.reader.specs.Turns.{rest-short}
 use Rattle.reader.specs.Whole.{head-ends}
-use Rattle.reader.specs.Got.{partFrom, part-is, section-got, section-lost, head-got, head-lost}
+use Rattle.reader.specs.Got.{partFrom, part-is, Section-got, section-got, section-lost, Section-kept, Head-got, head-got, head-lost, same-things, formulas-read, policy-read, steps-read}
+use Rattle.reader.specs.declared.NumberLine.{NumberLine}
 use Rattle.reader.specs.declared.NumberLine.the-variants as NumberLine
 use Rattle.reader.specs.declared.Section.the-variants as Section
 use Rattle.reader.specs.declared.Head.the-variants as Head
+use Rattle.reader.specs.declared.Policy.the-variants as Policy
+use Rattle.reader.specs.declared.Steps.the-variants as Steps
 
 many-form-ends : (p a f : ℕ) → Ends (many (formItem p a) f [])
 many-form-ends p a f = many-ends (formItem p a) f [] (λ b. line-ends _ _ _)
@@ -47,7 +50,8 @@ module _ (s : List ℕ) where
   unfolding formulasPart _>>=_ after
   formulas-1 k i e = rw e refl
 
-  formulas-2 : (h : Counted) (t : List ℕ) (k i : ℕ) → headPart s ≡ ok h t → many (formItem (h .principals) (h .atoms)) (h .formulas) [] t ≡ bad k i
+  formulas-2 : (h : Counted) (t : List ℕ) (k i : ℕ) → headPart s ≡ ok h t → many (formItem (h .principals) (h .atoms))
+      (h .formulas) [] t ≡ bad k i
       → formulasPart s ≡ bad k i
   unfolding formulasPart _>>=_ after
   formulas-2 h t k i e f = rw e (rw f refl)
@@ -61,49 +65,71 @@ module _ (s : List ℕ) where
   pub formulas-stopped : (x : Refusal) → headOf (length s) (headPart s) ≡ Head.Refused x → formulasPart s ≡ bad (x .number) (x .place)
   formulas-stopped x e = formulas-1 (x .number) (x .place) (head-lost (length s) (headPart s) x e)
 
-  module _ (p a f at : ℕ) (e : headOf (length s) (headPart s) ≡ Head.Read p a f at) where
-    pub head-place : at ≤ length s
-    head-place = let g = head-got (length s) (headPart s) p a f at e in omega (arith, g .place)
+-- The first four lines as the code has them.
+pub record Head-kept (s : List ℕ) : Type 0 where
+  pub principals : ℕ
+  pub atoms : ℕ
+  pub count : ℕ
+  pub at : ℕ
+  pub is : headOf (length s) (headPart s) ≡ Head.Read principals atoms count at
 
-    pub forms-stopped : (x : Refusal) → sectionOf (length (partFrom at s)) (many (formItem p a) f [] (partFrom at s)) ≡ Section.Refused x
-        → formulasPart s ≡ bad (x .number) (x .place)
-    forms-stopped x m =
-        let g = head-got (length s) (headPart s) p a f at e in
-        let q = part-is headPart head-ends s record { principals = p; atoms = a; formulas = f } (g .rest) at (g .is) (g .place) in
-        formulas-2 record { principals = p; atoms = a; formulas = f } (g .rest) (x .number) (x .place) (g .is)
-        (subst (λ t. many (formItem p a) f [] t ≡ bad (x .number) (x .place)) q
-        (section-lost (length (partFrom at s)) (many (formItem p a) f [] (partFrom at s)) x m))
+abbrev pub behindHead : {s : List ℕ} → Head-kept s → List ℕ
+behindHead {s} k = partFrom (k .at) s
 
-    pub record Formulas-joined (more : ℕ) : Type 0 where
-      pub forms : List Row
-      pub rest : List ℕ
-      pub is : formulasPart s ≡ ok record { principals = p; atoms = a; forms = forms } rest
-      pub read : many (formItem p a) f [] (partFrom at s) ≡ ok forms rest
-      pub count : f ≡ length forms
-      pub place : at + more ≡ length s - length rest
-      pub short : length rest ≤ length s
+abbrev pub formsRead : {s : List ℕ} → Head-kept s → Read (List Row)
+formsRead k = many (formItem (k .principals) (k .atoms)) (k .count) [] (behindHead k)
 
-    pub forms-joined : (more : ℕ) → sectionOf (length (partFrom at s)) (many (formItem p a) f [] (partFrom at s)) ≡ Section.Read more
-        → Formulas-joined more
-    forms-joined more m =
-        let h : Counted = record { principals = p; atoms = a; formulas = f } in
-        let g = head-got (length s) (headPart s) p a f at e in
-        let q = part-is headPart head-ends s h (g .rest) at (g .is) (g .place) in
-        let k = section-got (length (partFrom at s)) (many (formItem p a) f [] (partFrom at s)) more m in
-        let r : many (formItem p a) f [] (g .rest) ≡ ok (k .things) (k .rest) = subst
-        (λ t. many (formItem p a) f [] t ≡ ok (k .things) (k .rest)) q (k .is) in
-        let l₁ = tail-length (g .rest) s (head-ends .ends s h (g .rest) (g .is)) in
-        let l₂ = tail-length (k .rest) (g .rest) (many-form-ends p a f .ends (g .rest) (k .things) (k .rest) r) in
-        let n : length (partFrom at s) ≡ length (g .rest) = ap length q in
-        record {
-          forms = k .things;
-          rest = k .rest;
-          is = formulas-3 h (g .rest) (k .things) (k .rest) (g .is) r;
-          read = k .is;
-          count = sym (many-length (formItem p a) f [] (partFrom at s) (k .things) (k .rest) (k .is));
-          place = omega (arith, l₁, l₂, n, g .place, k .place);
-          short = omega (arith, l₁, l₂);
-        }
+module _ {s : List ℕ} (k : Head-kept s) where
+  hg : Head-got (length s) (headPart s) (k .principals) (k .atoms) (k .count) (k .at)
+  hg = head-got (length s) (headPart s) (k .principals) (k .atoms) (k .count) (k .at) (k .is)
+
+  abbrev counts : Counted
+  counts = record { principals = k .principals; atoms = k .atoms; formulas = k .count }
+
+  second : behindHead k ≡ hg .rest
+  second = part-is headPart head-ends s counts (hg .rest) (k .at) (hg .is) (hg .place)
+
+  same-forms : formsRead k ≡ many (formItem (k .principals) (k .atoms)) (k .count) [] (hg .rest)
+  same-forms = ap (many (formItem (k .principals) (k .atoms)) (k .count) []) second
+
+  pub head-place : k .at ≤ length s
+  head-place = omega (arith, hg .place)
+
+  pub forms-stopped : (x : Refusal) → sectionOf (length (behindHead k)) (formsRead k) ≡ Section.Refused x → formulasPart s ≡ bad
+      (x .number) (x .place)
+  forms-stopped x m =
+      formulas-2 s counts (hg .rest) (x .number) (x .place) (hg .is)
+      (sym same-forms ∙ section-lost (length (behindHead k)) (formsRead k) x m)
+
+  module _ (m : Section-kept formEntry (length (behindHead k)) (formsRead k)) where
+    mg : Section-got (length (behindHead k)) (formsRead k) (m .at)
+    mg = section-got (length (behindHead k)) (formsRead k) (m .at) (m .is)
+
+    rest-inside : length (mg .rest) ≤ length (behindHead k)
+    rest-inside = tail-length (mg .rest) (behindHead k)
+        (many-form-ends (k .principals) (k .atoms) (k .count) .ends (behindHead k) (mg .things) (mg .rest) (mg .is))
+
+    head-inside : length (hg .rest) ≤ length s
+    head-inside = tail-length (hg .rest) s (head-ends .ends s counts (hg .rest) (hg .is))
+
+    forms-taken : k .at + m .at ≡ length s - length (mg .rest)
+    forms-taken = omega (arith, rest-inside, head-inside, hg .place, mg .place, ap length second)
+
+    pub forms-inside : k .at + m .at ≤ length s
+    forms-inside = omega (arith, forms-taken)
+
+    forms-are : formulasPart s ≡ ok record { principals = k .principals; atoms = k .atoms; forms = mg .things } (mg .rest)
+    forms-are = formulas-3 s counts (hg .rest) (mg .things) (mg .rest) (hg .is) (sym same-forms ∙ mg .is)
+
+    pub forms-joined : (Head.Read (k .principals) (k .atoms) (k .count) (k .at + m .at) ≡ formulasOf (length s) (formulasPart s)) ×
+        ((f : Formulas) (rest : List ℕ) → formulasPart s ≡ ok f rest → m .numbers ≡ table formEntry (m .len) (f .forms))
+    forms-joined = (
+      formulas-read (length s) (formulasPart s) (k .principals) (k .atoms) (k .count) (k .at + m .at) (mg .things) (mg .rest) forms-are
+          (sym (many-length (formItem (k .principals) (k .atoms)) (k .count) [] (behindHead k) (mg .things) (mg .rest) (mg .is))) forms-taken,
+      λ f rest g. m .stored (mg .things) (mg .rest) (mg .is) ∙ ap (λ h. table formEntry (m .len) (h .forms))
+          (same-things (formulasPart s) record { principals = k .principals; atoms = k .atoms; forms = mg .things } f
+          (mg .rest) rest forms-are g),
+    )
 
 -- The table of classes asks what the definition asks.
 module _ (t : List ℕ) (n : ℕ) (small : n ≤ mostFormulas) where
@@ -158,81 +184,106 @@ module _ (forms : List Row) (s : List ℕ) where
   unfolding policyPart _>>=_ after
   policy-4 c t lines u goal rest e f g = rw e (rw f (rw g refl))
 
-module _ (table : List ℕ) (n : ℕ) (small : n ≤ mostFormulas) (s : List ℕ) where
-  abbrev rows : List Row
-  rows = unpack formEntry n table
+-- The formulas in a table.
+abbrev rows : List ℕ → ℕ → List Row
+rows numbers n = unpack formEntry n numbers
 
-  clauses-at : clausesAt (length rows) ≡ 5 + n
-  clauses-at = ap clausesAt (unpack-length formEntry n table)
+pub clauses-stopped : (numbers : List ℕ) (n : ℕ) (s : List ℕ) (k : ℕ)
+    → numberLineOf (judged (countRefusal 0 128) (number (valueOf (bytes "clauses=") s))) ≡ NumberLine.Refused k
+    → policyPart (unpack formEntry n numbers) s ≡ bad k (5 + n)
+clauses-stopped numbers n s k e =
+    policy-1 (rows numbers n) s k (5 + n)
+    (number-bad "clauses=" clausesRefusal (clausesAt (length (rows numbers n))) s k e ∙
+    ap (λ j. bad k (clausesAt j)) (unpack-length formEntry n numbers))
 
-  pub clauses-stopped : (k : ℕ) → numberLineOf (judged (countRefusal 0 128) (number (valueOf (bytes "clauses=") s))) ≡ NumberLine.Refused k
-      → policyPart rows s ≡ bad k (5 + n)
-  clauses-stopped k e = policy-1 rows s k (5 + n) (number-bad "clauses=" clausesRefusal (clausesAt (length rows)) s k e ∙ ap
-      (λ j. bad k j) clauses-at)
+-- The count of a policy's lines, the text behind it, and the classes of the formulas in a table, as the code has them.
+pub record Clauses-kept (numbers : List ℕ) (n : ℕ) (s : List ℕ) : Type 0 where
+  pub small : n ≤ mostFormulas
+  pub count : ℕ
+  pub counted : numberLineOf (judged (countRefusal 0 128) (number (valueOf (bytes "clauses=") s))) ≡ NumberLine.Number count
+  pub rest : List ℕ
+  pub behind : rest ≡ restOf s
+  pub classes : List ℕ
+  pub tabled : classes ≡ classTable numbers n
 
-  module _ (c : ℕ) (t : List ℕ) (behind : t ≡ restOf s)
-      (counted : numberLineOf (judged (countRefusal 0 128) (number (valueOf (bytes "clauses=") s))) ≡ NumberLine.Number c)
-      (cs : List ℕ) (tabled : cs ≡ classTable table n) where
-    first : line clausesLine clausesRefusal (clausesAt (length rows)) s ≡ ok c t
-    first = number-ok "clauses=" clausesRefusal (clausesAt (length rows)) s t c behind counted
+abbrev pub linesRead : {numbers : List ℕ} {n : ℕ} {s : List ℕ} → Clauses-kept numbers n s → Read (List ℕ)
+linesRead {numbers} {n} k = many (classedItem (k .classes) n) (k .count) [] (k .rest)
 
-    same-items : many (classedItem cs n) c [] t ≡ many (clauseItem rows) c [] t
-    same-items = ap (λ item. many item c [] t) (clause-items table n small cs tabled)
+module _ {numbers : List ℕ} {n : ℕ} {s : List ℕ} (k : Clauses-kept numbers n s) where
+  first : line clausesLine clausesRefusal (clausesAt (length (rows numbers n))) s ≡ ok (k .count) (k .rest)
+  first = number-ok "clauses=" clausesRefusal (clausesAt (length (rows numbers n))) s (k .rest) (k .count) (k .behind) (k .counted)
 
-    pub lines-stopped : (x : Refusal) → sectionOf (length t) (many (classedItem cs n) c [] t) ≡ Section.Refused x → policyPart rows s ≡ bad
-        (x .number) (x .place)
-    lines-stopped x m =
-        policy-2 rows s c t (x .number) (x .place) first (sym same-items ∙ section-lost (length t) (many (classedItem cs n) c [] t) x m)
+  same-items : linesRead k ≡ many (clauseItem (rows numbers n)) (k .count) [] (k .rest)
+  same-items = ap (λ item. many item (k .count) [] (k .rest)) (clause-items numbers n (k .small) (k .classes) (k .tabled))
 
-    module _ (at : ℕ) (m : sectionOf (length t) (many (classedItem cs n) c [] t) ≡ Section.Read at) where
-      pub lines-place : at ≤ length t
-      lines-place = let g = section-got (length t) (many (classedItem cs n) c [] t) at m in omega (arith, g .place)
+  pub lines-stopped : (x : Refusal) → sectionOf (length (k .rest)) (linesRead k) ≡ Section.Refused x → policyPart (unpack formEntry n numbers) s
+      ≡ bad (x .number) (x .place)
+  lines-stopped x m =
+      policy-2 (rows numbers n) s (k .count) (k .rest) (x .number) (x .place) first
+      (sym same-items ∙ section-lost (length (k .rest)) (linesRead k) x m)
 
-      pub goal-stopped : (k : ℕ) → numberLineOf (judged (classRefusal goalIn cs n) (number (valueOf (bytes "goal=") (partFrom at t))))
-          ≡ NumberLine.Refused k
-          → policyPart rows s ≡ bad k (6 + n + c)
-      goal-stopped k e =
-          let g = section-got (length t) (many (classedItem cs n) c [] t) at m in
-          let q = part-is (many (classedItem cs n) c []) (many-clause-ends cs n c) t (g .things) (g .rest) at (g .is) (g .place) in
-          let len = many-length (classedItem cs n) c [] t (g .things) (g .rest) (g .is) in
-          let place : goalAt (length rows) (length (g .things)) ≡ 6 + n + c = omega (arith, len, unpack-length formEntry n table) in
-          let e₁ = subst (λ u. numberLineOf (judged (classRefusal goalIn cs n) (number (valueOf (bytes "goal=") u))) ≡ NumberLine.Refused k) q e in
-          let e₂ = subst (λ r. numberLineOf (judged r (number (valueOf (bytes "goal=") (g .rest)))) ≡ NumberLine.Refused k)
-          (goal-test table n small cs tabled) e₁ in
-          policy-3 rows s c t (g .things) (g .rest) k (6 + n + c) first (sym same-items ∙ g .is)
-          (number-bad "goal=" (goalRefusal rows) (goalAt (length rows) (length (g .things))) (g .rest) k e₂ ∙ ap (λ j. bad k j) place)
+  module _ (m : Section-kept lineEntry (length (k .rest)) (linesRead k)) where
+    lg : Section-got (length (k .rest)) (linesRead k) (m .at)
+    lg = section-got (length (k .rest)) (linesRead k) (m .at) (m .is)
 
-      pub record Policy-joined (goal : ℕ) (rest : List ℕ) : Type 0 where
-        pub lines : List ℕ
-        pub over : List ℕ
-        pub is : policyPart rows s ≡ ok record { lines = lines; goal = goal } rest
-        pub read : many (classedItem cs n) c [] t ≡ ok lines over
-        pub count : c ≡ length lines
-        pub short : length rest ≤ length s
+    third : partFrom (m .at) (k .rest) ≡ lg .rest
+    third = part-is (many (classedItem (k .classes) n) (k .count) []) (many-clause-ends (k .classes) n (k .count)) (k .rest) (lg .things)
+        (lg .rest) (m .at) (lg .is) (lg .place)
 
-      pub policy-joined : (goal : ℕ) (rest : List ℕ) → rest ≡ restOf (partFrom at t)
-          → numberLineOf (judged (classRefusal goalIn cs n) (number (valueOf (bytes "goal=") (partFrom at t)))) ≡ NumberLine.Number goal
-          → Policy-joined goal rest
-      policy-joined goal rest r e =
-          let g = section-got (length t) (many (classedItem cs n) c [] t) at m in
-          let q = part-is (many (classedItem cs n) c []) (many-clause-ends cs n c) t (g .things) (g .rest) at (g .is) (g .place) in
-          let len = many-length (classedItem cs n) c [] t (g .things) (g .rest) (g .is) in
-          let e₁ = subst (λ u. numberLineOf (judged (classRefusal goalIn cs n) (number (valueOf (bytes "goal=") u))) ≡ NumberLine.Number goal) q e in
-          let e₂ = subst (λ f. numberLineOf (judged f (number (valueOf (bytes "goal=") (g .rest)))) ≡ NumberLine.Number goal)
-          (goal-test table n small cs tabled) e₁ in
-          let r₁ : rest ≡ restOf (g .rest) = r ∙ ap restOf q in
-          let l₁ = rest-short s t behind in
-          let l₂ = tail-length (g .rest) t (many-clause-ends cs n c .ends t (g .things) (g .rest) (g .is)) in
-          let l₃ = rest-short (g .rest) rest r₁ in
-          record {
-            lines = g .things;
-            over = g .rest;
-            is = policy-4 rows s c t (g .things) (g .rest) goal rest first (sym same-items ∙ g .is)
-                (number-ok "goal=" (goalRefusal rows) (goalAt (length rows) (length (g .things))) (g .rest) rest goal r₁ e₂);
-            read = g .is;
-            count = sym len;
-            short = omega (arith, l₁, l₂, l₃);
-          }
+    many-lines : length (lg .things) ≡ k .count
+    many-lines = many-length (classedItem (k .classes) n) (k .count) [] (k .rest) (lg .things) (lg .rest) (lg .is)
+
+    abbrev goalAnswer : List ℕ → NumberLine
+    goalAnswer t = numberLineOf (judged (classRefusal goalIn (k .classes) n) (number (valueOf (bytes "goal=") t)))
+
+    -- The goal's line as the definition asks for it.
+    goal-asked : (a : NumberLine) → goalAnswer (partFrom (m .at) (k .rest)) ≡ a
+        → numberLineOf (judged (goalRefusal (rows numbers n)) (number (valueOf (bytes "goal=") (lg .rest)))) ≡ a
+    goal-asked a e =
+        sym (λ i. numberLineOf
+        (judged (goal-test numbers n (k .small) (k .classes) (k .tabled) i) (number (valueOf (bytes "goal=") (third i))))) ∙ e
+
+    pub lines-place : m .at ≤ length (k .rest)
+    lines-place = omega (arith, lg .place)
+
+    pub goal-stopped : (j : ℕ) → goalAnswer (partFrom (m .at) (k .rest)) ≡ NumberLine.Refused j
+        → policyPart (unpack formEntry n numbers) s ≡ bad j (6 + n + k .count)
+    goal-stopped j e =
+        let place : goalAt (length (rows numbers n)) (length (lg .things)) ≡ 6 + n + k .count = omega
+        (arith, many-lines, unpack-length formEntry n numbers) in
+        policy-3 (rows numbers n) s (k .count) (k .rest) (lg .things) (lg .rest) j (6 + n + k .count) first (sym same-items ∙ lg .is)
+        (number-bad "goal=" (goalRefusal (rows numbers n)) (goalAt (length (rows numbers n)) (length (lg .things))) (lg .rest) j
+        (goal-asked (NumberLine.Refused j) e) ∙ ap (λ h. bad j h) place)
+
+    module _ (goal : ℕ) (rest : List ℕ) (r : rest ≡ restOf (partFrom (m .at) (k .rest)))
+        (e : goalAnswer (partFrom (m .at) (k .rest)) ≡ NumberLine.Number goal) where
+      goal-behind : rest ≡ restOf (lg .rest)
+      goal-behind = r ∙ ap restOf third
+
+      pub goal-inside : length rest ≤ length s
+      goal-inside =
+          omega (
+            arith,
+            rest-short s (k .rest) (k .behind),
+            tail-length (lg .rest) (k .rest) (many-clause-ends (k .classes) n (k .count) .ends (k .rest) (lg .things) (lg .rest) (lg .is)),
+            rest-short (lg .rest) rest goal-behind,
+          )
+
+      policy-is : policyPart (rows numbers n) s ≡ ok record { lines = lg .things; goal = goal } rest
+      policy-is = policy-4 (rows numbers n) s (k .count) (k .rest) (lg .things) (lg .rest) goal rest first (sym same-items ∙ lg .is)
+          (number-ok "goal=" (goalRefusal (rows numbers n)) (goalAt (length (rows numbers n)) (length (lg .things))) (lg .rest) rest goal
+          goal-behind (goal-asked (NumberLine.Number goal) e))
+
+      pub policy-joined : (Policy.Read (k .count) goal (length s - length rest) ≡ policyOf (length s) (policyPart (unpack formEntry n numbers) s))
+          ×
+          ((p : PolicyRead) (over : List ℕ) → policyPart (unpack formEntry n numbers) s ≡ ok p over → m .numbers ≡ table lineEntry (m .len)
+          (p .lines))
+      policy-joined = (
+        policy-read (length s) (policyPart (rows numbers n) s) (k .count) goal (length s - length rest) (lg .things) rest policy-is
+            (sym many-lines) refl,
+        λ p over h. m .stored (lg .things) (lg .rest) (lg .is) ∙ ap (λ y. table lineEntry (m .len) (y .lines))
+            (same-things (policyPart (rows numbers n) s) record { lines = lg .things; goal = goal } p rest over policy-is h),
+      )
 
 -- The steps: a count, that many `step=` lines.
 module _ (formulas clauses : ℕ) (s : List ℕ) where
@@ -249,35 +300,46 @@ module _ (formulas clauses : ℕ) (s : List ℕ) where
       → stepsPart formulas clauses s ≡ bad k (7 + formulas + clauses)
   steps-stopped k e = steps-1 k (7 + formulas + clauses) (number-bad "steps=" stepsRefusal (stepsAt formulas clauses) s k e)
 
-  module _ (c : ℕ) (t : List ℕ) (behind : t ≡ restOf s)
-      (counted : numberLineOf (judged (countRefusal 1 2048) (number (valueOf (bytes "steps=") s))) ≡ NumberLine.Number c) where
-    whole : stepsPart formulas clauses s ≡ many (stepItem formulas clauses) c [] t
-    whole = steps-2 c t (number-ok "steps=" stepsRefusal (stepsAt formulas clauses) s t c behind counted)
+-- The count of steps and the text behind it, as the code has them.
+pub record Steps-counted (formulas clauses : ℕ) (s : List ℕ) : Type 0 where
+  pub count : ℕ
+  pub counted : numberLineOf (judged (countRefusal 1 2048) (number (valueOf (bytes "steps=") s))) ≡ NumberLine.Number count
+  pub rest : List ℕ
+  pub behind : rest ≡ restOf s
 
-    pub rows-stopped : (x : Refusal) → sectionOf (length t) (many (stepItem formulas clauses) c [] t) ≡ Section.Refused x
-        → stepsPart formulas clauses s ≡ bad (x .number) (x .place)
-    rows-stopped x m = whole ∙ section-lost (length t) (many (stepItem formulas clauses) c [] t) x m
+abbrev pub rowsRead : {formulas clauses : ℕ} {s : List ℕ} → Steps-counted formulas clauses s → Read (List Row)
+rowsRead {formulas} {clauses} k = many (stepItem formulas clauses) (k .count) [] (k .rest)
 
-    pub record Steps-joined (at : ℕ) : Type 0 where
-      pub rows : List Row
-      pub rest : List ℕ
-      pub is : stepsPart formulas clauses s ≡ ok rows rest
-      pub read : many (stepItem formulas clauses) c [] t ≡ ok rows rest
-      pub count : c ≡ length rows
-      pub place : length s - length t + at ≡ length s - length rest
-      pub short : length s - length t + at ≤ length s
+module _ {formulas clauses : ℕ} {s : List ℕ} (k : Steps-counted formulas clauses s) where
+  whole : stepsPart formulas clauses s ≡ rowsRead k
+  whole = steps-2 formulas clauses s (k .count) (k .rest)
+      (number-ok "steps=" stepsRefusal (stepsAt formulas clauses) s (k .rest) (k .count) (k .behind) (k .counted))
 
-    pub steps-joined : (at : ℕ) → sectionOf (length t) (many (stepItem formulas clauses) c [] t) ≡ Section.Read at → Steps-joined at
-    steps-joined at m =
-        let g = section-got (length t) (many (stepItem formulas clauses) c [] t) at m in
-        let l₁ = rest-short s t behind in
-        let l₂ = tail-length (g .rest) t (many-step-ends formulas clauses c .ends t (g .things) (g .rest) (g .is)) in
-        record {
-          rows = g .things;
-          rest = g .rest;
-          is = whole ∙ g .is;
-          read = g .is;
-          count = sym (many-length (stepItem formulas clauses) c [] t (g .things) (g .rest) (g .is));
-          place = omega (arith, l₁, l₂, g .place);
-          short = omega (arith, l₁, l₂, g .place);
-        }
+  pub rows-stopped : (x : Refusal) → sectionOf (length (k .rest)) (rowsRead k) ≡ Section.Refused x → stepsPart formulas clauses s ≡ bad
+      (x .number) (x .place)
+  rows-stopped x m = whole ∙ section-lost (length (k .rest)) (rowsRead k) x m
+
+  module _ (m : Section-kept stepEntry (length (k .rest)) (rowsRead k)) where
+    rg : Section-got (length (k .rest)) (rowsRead k) (m .at)
+    rg = section-got (length (k .rest)) (rowsRead k) (m .at) (m .is)
+
+    rows-taken : length s - length (k .rest) + m .at ≡ length s - length (rg .rest)
+    rows-taken =
+        omega (
+          arith,
+          rest-short s (k .rest) (k .behind),
+          tail-length (rg .rest) (k .rest) (many-step-ends formulas clauses (k .count) .ends (k .rest) (rg .things) (rg .rest) (rg .is)),
+          rg .place,
+        )
+
+    pub rows-inside : length s - length (k .rest) + m .at ≤ length s
+    rows-inside = omega (arith, rows-taken)
+
+    pub steps-joined : (Steps.Read (k .count) (length s - length (k .rest) + m .at) ≡ stepsOf (length s) (stepsPart formulas clauses s)) ×
+        ((rows : List Row) (rest : List ℕ) → stepsPart formulas clauses s ≡ ok rows rest → m .numbers ≡ table stepEntry (m .len) rows)
+    steps-joined = (
+      steps-read (length s) (stepsPart formulas clauses s) (k .count) (length s - length (k .rest) + m .at) (rg .things) (rg .rest)
+          (whole ∙ rg .is) (sym (many-length (stepItem formulas clauses) (k .count) [] (k .rest) (rg .things) (rg .rest) (rg .is))) rows-taken,
+      λ rows rest g. m .stored (rg .things) (rg .rest) (rg .is) ∙ ap (table stepEntry (m .len))
+          (same-things (stepsPart formulas clauses s) (rg .things) rows (rg .rest) rest (whole ∙ rg .is) g),
+    )

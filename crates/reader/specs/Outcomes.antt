@@ -28,6 +28,13 @@ use Rattle.reader.specs.declared.Head.the-variants as Head
 use Rattle.reader.specs.declared.Policy.the-variants as Policy
 use Rattle.reader.specs.declared.Steps.the-variants as Steps
 
+-- Refused or read, an outcome is one of the two.
+outcome-never : {X : Type 0} (o : Outcome) (k i : ℕ) (q : Request) → o ≡ refused k i → o ≡ read q → X
+outcome-never o k i q e f = never cc
+
+same-request : (o : Outcome) (p q : Request) → o ≡ read p → o ≡ read q → p ≡ q
+same-request o p q e f = cc
+
 module _ (t : List ℕ) where
   read-refused : (k i : ℕ) → sections t ≡ bad k i → readRequest t ≡ refused k i
   unfolding readRequest ended
@@ -66,131 +73,170 @@ module _ (t : List ℕ) where
   pub formulas-end : (x : Refusal) → formulasOf (length t) (formulasPart t) ≡ Head.Refused x → readRequest t ≡ refused (x .number) (x .place)
   formulas-end x e = read-refused (x .number) (x .place) (whole-1 (x .number) (x .place) (formulas-lost (length t) (formulasPart t) x e))
 
-  module _ (p a f at : ℕ) (e : formulasOf (length t) (formulasPart t) ≡ Head.Read p a f at) where
-    -- The formulas, and the text behind them.
-    fg : Formulas-got (length t) (formulasPart t) p a f at
-    fg = formulas-got (length t) (formulasPart t) p a f at e
+-- The formulas, the policy and the steps of a text as the calls that read them left them: the counts, where the next begins, and the table.
+pub record Formulas-kept (t : List ℕ) : Type 0 where
+  pub principals : ℕ
+  pub atoms : ℕ
+  pub count : ℕ
+  pub at : ℕ
+  pub is : formulasOf (length t) (formulasPart t) ≡ Head.Read principals atoms count at
+  pub numbers : List ℕ
+  pub len : ℕ
+  pub stored : (f : Formulas) (rest : List ℕ) → formulasPart t ≡ ok f rest → numbers ≡ table formEntry len (f .forms)
 
-    abbrev formulasRead : Formulas
-    formulasRead = record { principals = p; atoms = a; forms = fg .forms }
+-- The text behind the formulas, and what the policy reads of it by the formulas in the table.
+abbrev pub behindFormulas : {t : List ℕ} → Formulas-kept t → List ℕ
+behindFormulas {t} k = partFrom (k .at) t
 
-    second : partFrom at t ≡ fg .rest
-    second = part-is formulasPart formulas-ends t formulasRead (fg .rest) at (fg .is) (fg .place)
+abbrev pub policyRead : {t : List ℕ} → Formulas-kept t → Read PolicyRead
+policyRead k = policyPart (unpack formEntry (k .count) (k .numbers)) (behindFormulas k)
 
-    pub formulas-place : at ≤ length t
-    formulas-place = omega (arith, fg .place)
+pub record Policy-kept {t : List ℕ} (k : Formulas-kept t) : Type 0 where
+  pub count : ℕ
+  pub goal : ℕ
+  pub at : ℕ
+  pub is : policyOf (length (behindFormulas k)) (policyRead k) ≡ Policy.Read count goal at
+  pub numbers : List ℕ
+  pub len : ℕ
+  pub stored : (p : PolicyRead) (rest : List ℕ) → policyRead k ≡ ok p rest → numbers ≡ table lineEntry len (p .lines)
 
-    module _ (numbers : List ℕ) (len : ℕ)
-        (stored : (g : Formulas) (rest : List ℕ) → formulasPart t ≡ ok g rest → numbers ≡ table formEntry len (g .forms)) where
-      rows-are : unpack formEntry f numbers ≡ fg .forms
-      rows-are = ap (λ l. unpack formEntry f l) (stored formulasRead (fg .rest) (fg .is)) ∙ unpack-table len (fg .forms) f (fg .count)
+abbrev pub behindPolicy : {t : List ℕ} {k : Formulas-kept t} → Policy-kept k → List ℕ
+behindPolicy {t} {k} p = partFrom (p .at) (behindFormulas k)
 
-      same-policy : policyPart (unpack formEntry f numbers) (partFrom at t) ≡ policyPart (fg .forms) (fg .rest)
-      same-policy = λ i. policyPart (rows-are i) (second i)
+abbrev pub stepsRead : {t : List ℕ} {k : Formulas-kept t} → Policy-kept k → Read (List Row)
+stepsRead {t} {k} p = stepsPart (k .count) (p .count) (behindPolicy p)
 
-      pub policy-end : (x : Refusal) → policyOf (length (partFrom at t)) (policyPart (unpack formEntry f numbers) (partFrom at t)) ≡ Policy.Refused x
-          → readRequest t ≡ refused (x .number) (x .place)
-      policy-end x d =
-          read-refused (x .number) (x .place)
-          (whole-2 formulasRead (fg .rest) (fg .is) (x .number) (x .place)
-          (sym same-policy ∙ policy-lost (length (partFrom at t)) (policyPart (unpack formEntry f numbers) (partFrom at t)) x d))
+pub record Steps-kept {t : List ℕ} {k : Formulas-kept t} (p : Policy-kept k) : Type 0 where
+  pub count : ℕ
+  pub at : ℕ
+  pub is : stepsOf (length (behindPolicy p)) (stepsRead p) ≡ Steps.Read count at
+  pub numbers : List ℕ
+  pub len : ℕ
+  pub stored : (rows : List Row) (rest : List ℕ) → stepsRead p ≡ ok rows rest → numbers ≡ table stepEntry len rows
 
-      module _ (c g more : ℕ) (d : policyOf (length (partFrom at t)) (policyPart (unpack formEntry f numbers) (partFrom at t))
-          ≡ Policy.Read c g more) where
-        -- The policy and the goal, and the text behind them.
-        pg : Policy-got (length (partFrom at t)) (policyPart (unpack formEntry f numbers) (partFrom at t)) c g more
-        pg = policy-got (length (partFrom at t)) (policyPart (unpack formEntry f numbers) (partFrom at t)) c g more d
+module _ {t : List ℕ} (k : Formulas-kept t) where
+  -- The formulas, and the text behind them.
+  fg : Formulas-got (length t) (formulasPart t) (k .principals) (k .atoms) (k .count) (k .at)
+  fg = formulas-got (length t) (formulasPart t) (k .principals) (k .atoms) (k .count) (k .at) (k .is)
 
-        abbrev policyGot : PolicyRead
-        policyGot = record { lines = pg .lines; goal = g }
+  abbrev formulasGot : Formulas
+  formulasGot = record { principals = k .principals; atoms = k .atoms; forms = fg .forms }
 
-        third : partFrom more (partFrom at t) ≡ pg .rest
-        third = part-is (policyPart (unpack formEntry f numbers)) (policy-ends (unpack formEntry f numbers)) (partFrom at t) policyGot
-            (pg .rest) more (pg .is) (pg .place)
+  second : behindFormulas k ≡ fg .rest
+  second = part-is formulasPart formulas-ends t formulasGot (fg .rest) (k .at) (fg .is) (fg .place)
 
-        pub policy-place : more ≤ length (partFrom at t)
-        policy-place = omega (arith, pg .place)
+  pub formulas-place : k .at ≤ length t
+  formulas-place = omega (arith, fg .place)
 
-        same-steps : stepsPart f c (partFrom more (partFrom at t)) ≡ stepsPart (length (fg .forms)) (length (pg .lines)) (pg .rest)
-        same-steps = λ i. stepsPart (fg .count i) (pg .count i) (third i)
+  rows-are : unpack formEntry (k .count) (k .numbers) ≡ fg .forms
+  rows-are = ap (λ l. unpack formEntry (k .count) l) (k .stored formulasGot (fg .rest) (fg .is)) ∙ unpack-table (k .len) (fg .forms) (k .count)
+      (fg .count)
 
-        pub steps-end : (x : Refusal) → stepsOf (length (partFrom more (partFrom at t))) (stepsPart f c (partFrom more (partFrom at t)))
-            ≡ Steps.Refused x
-            → readRequest t ≡ refused (x .number) (x .place)
-        steps-end x h =
-            read-refused (x .number) (x .place)
-            (whole-3 formulasRead (fg .rest) (fg .is) policyGot (pg .rest) (sym same-policy ∙ pg .is) (x .number) (x .place)
-            (sym same-steps ∙ steps-lost (length (partFrom more (partFrom at t))) (stepsPart f c (partFrom more (partFrom at t))) x h))
+  same-policy : policyRead k ≡ policyPart (fg .forms) (fg .rest)
+  same-policy = λ i. policyPart (rows-are i) (second i)
 
-        module _ (n end : ℕ) (h : stepsOf (length (partFrom more (partFrom at t))) (stepsPart f c (partFrom more (partFrom at t)))
-            ≡ Steps.Read n end) where
-          -- The steps, and whether anything follows.
-          sg : Steps-got (length (partFrom more (partFrom at t))) (stepsPart f c (partFrom more (partFrom at t))) n end
-          sg = steps-got (length (partFrom more (partFrom at t))) (stepsPart f c (partFrom more (partFrom at t))) n end h
+  pub policy-end : (x : Refusal) → policyOf (length (behindFormulas k)) (policyRead k) ≡ Policy.Refused x → readRequest t
+      ≡ refused (x .number) (x .place)
+  policy-end x d =
+      read-refused t (x .number) (x .place)
+      (whole-2 t formulasGot (fg .rest) (fg .is) (x .number) (x .place)
+      (sym same-policy ∙ policy-lost (length (behindFormulas k)) (policyRead k) x d))
 
-          abbrev joined : Request
-          joined = requestOf formulasRead policyGot (sg .rows)
+  module _ (p : Policy-kept k) where
+    -- The policy and the goal, and the text behind them.
+    pg : Policy-got (length (behindFormulas k)) (policyRead k) (p .count) (p .goal) (p .at)
+    pg = policy-got (length (behindFormulas k)) (policyRead k) (p .count) (p .goal) (p .at) (p .is)
 
-          all-lines : sections t ≡ ok joined (sg .rest)
-          all-lines = whole-4 formulasRead (fg .rest) (fg .is) policyGot (pg .rest) (sym same-policy ∙ pg .is) (sg .rows) (sg .rest)
-              (sym same-steps ∙ sg .is)
+    abbrev policyGot : PolicyRead
+    policyGot = record { lines = pg .lines; goal = p .goal }
 
-          over-short : length (sg .rest) ≤ length (partFrom more (partFrom at t))
-          over-short = tail-length (sg .rest) (partFrom more (partFrom at t))
-              (steps-ends f c .ends (partFrom more (partFrom at t)) (sg .rows) (sg .rest) (sg .is))
+    third : behindPolicy p ≡ pg .rest
+    third = part-is (policyPart (unpack formEntry (k .count) (k .numbers))) (policy-ends (unpack formEntry (k .count) (k .numbers)))
+        (behindFormulas k) policyGot (pg .rest) (p .at) (pg .is) (pg .place)
 
-          pub bytes-after : end < length (partFrom more (partFrom at t)) → readRequest t ≡ refused 6 (8 + f + c + n)
-          bytes-after l =
-              read-over joined (sg .rest) all-lines (omega (arith, sg .place)) ∙
-              (λ i. refused 6 (endAt (sym (fg .count) i) (sym (pg .count) i) (sym (sg .count) i)))
+    pub policy-place : p .at ≤ length (behindFormulas k)
+    policy-place = omega (arith, pg .place)
 
-          pub record Request-joined : Type 0 where
-            pub request : Request
-            pub outcome : readRequest t ≡ read request
-            pub answer : Reading.Read record { principals = p; atoms = a; formulas = f; lines = c; goal = g; steps = n } ≡ readingOf (readRequest t)
-            pub formsRest : List ℕ
-            pub formsRead : formulasPart t ≡ ok record { principals = p; atoms = a; forms = request .forms } formsRest
-            pub linesRest : List ℕ
-            pub linesRead : policyPart (unpack formEntry f numbers) (partFrom at t) ≡ ok record { lines = request .lines; goal = g } linesRest
-            pub stepsRest : List ℕ
-            pub stepsRead : stepsPart f c (partFrom more (partFrom at t)) ≡ ok (request .steps) stepsRest
+    same-steps : stepsRead p ≡ stepsPart (length (fg .forms)) (length (pg .lines)) (pg .rest)
+    same-steps = λ i. stepsPart (fg .count i) (pg .count i) (third i)
 
-          counts-are : Reading.Read record { principals = p; atoms = a; formulas = f; lines = c; goal = g; steps = n } ≡ readingOf (read joined)
-          unfolding readingOf
-          counts-are = λ i. Reading.Read record {
-            principals = p;
-            atoms = a;
-            formulas = fg .count i;
-            lines = pg .count i;
-            goal = g;
-            steps = sg .count i;
-          }
+    pub steps-end : (x : Refusal) → stepsOf (length (behindPolicy p)) (stepsRead p) ≡ Steps.Refused x → readRequest t
+        ≡ refused (x .number) (x .place)
+    steps-end x h =
+        read-refused t (x .number) (x .place)
+        (whole-3 t formulasGot (fg .rest) (fg .is) policyGot (pg .rest) (sym same-policy ∙ pg .is) (x .number) (x .place)
+        (sym same-steps ∙ steps-lost (length (behindPolicy p)) (stepsRead p) x h))
 
-          pub request-joined : length (partFrom more (partFrom at t)) ≤ end → Request-joined
-          request-joined l =
-              let o = read-whole joined (sg .rest) all-lines (omega (arith, sg .place, over-short)) in
-              record {
-                request = joined;
-                outcome = o;
-                answer = counts-are ∙ ap readingOf (sym o);
-                formsRest = fg .rest;
-                formsRead = fg .is;
-                linesRest = pg .rest;
-                linesRead = pg .is;
-                stepsRest = sg .rest;
-                stepsRead = sg .is;
-              }
+    module _ (s : Steps-kept p) where
+      -- The steps, and whether anything follows.
+      sg : Steps-got (length (behindPolicy p)) (stepsRead p) (s .count) (s .at)
+      sg = steps-got (length (behindPolicy p)) (stepsRead p) (s .count) (s .at) (s .is)
 
--- Refused or read, an outcome is one of the two.
-pub outcome-never : {X : Type 0} (o : Outcome) (k i : ℕ) (q : Request) → o ≡ refused k i → o ≡ read q → X
-outcome-never o k i q e f = never cc
+      abbrev joined : Request
+      joined = requestOf formulasGot policyGot (sg .rows)
 
-pub same-request : (o : Outcome) (p q : Request) → o ≡ read p → o ≡ read q → p ≡ q
-same-request o p q e f = cc
+      all-lines : sections t ≡ ok joined (sg .rest)
+      all-lines = whole-4 t formulasGot (fg .rest) (fg .is) policyGot (pg .rest) (sym same-policy ∙ pg .is) (sg .rows) (sg .rest)
+          (sym same-steps ∙ sg .is)
+
+      over-short : length (sg .rest) ≤ length (behindPolicy p)
+      over-short = tail-length (sg .rest) (behindPolicy p)
+          (steps-ends (k .count) (p .count) .ends (behindPolicy p) (sg .rows) (sg .rest) (sg .is))
+
+      pub bytes-after : s .at < length (behindPolicy p) → readRequest t ≡ refused 6 (8 + k .count + p .count + s .count)
+      bytes-after l =
+          read-over t joined (sg .rest) all-lines (omega (arith, sg .place)) ∙
+          (λ i. refused 6 (endAt (sym (fg .count) i) (sym (pg .count) i) (sym (sg .count) i)))
+
+      abbrev counts : Counts
+      counts = record { principals = k .principals; atoms = k .atoms; formulas = k .count; lines = p .count; goal = p .goal; steps = s .count }
+
+      counts-are : Reading.Read counts ≡ readingOf (read joined)
+      unfolding readingOf
+      counts-are = λ i. Reading.Read record {
+        principals = k .principals;
+        atoms = k .atoms;
+        formulas = fg .count i;
+        lines = pg .count i;
+        goal = p .goal;
+        steps = sg .count i;
+      }
+
+      -- The answer, and the three tables, of a text that ends with its steps.
+      pub all-read : length (behindPolicy p) ≤ s .at → (Reading.Read counts ≡ readingOf (readRequest t)) ×
+          (((q : Request) → readRequest t ≡ read q → k .numbers ≡ table formEntry (k .len) (q .forms)) ×
+          (((q : Request) → readRequest t ≡ read q → p .numbers ≡ table lineEntry (p .len) (q .lines)) ×
+          ((q : Request) → readRequest t ≡ read q → s .numbers ≡ table stepEntry (s .len) (q .steps))))
+      all-read l =
+          let o = read-whole t joined (sg .rest) all-lines (omega (arith, sg .place, over-short)) in (
+            counts-are ∙ ap readingOf (sym o),
+            (
+              (λ q z. k .stored formulasGot (fg .rest) (fg .is) ∙ ap (λ u. table formEntry (k .len) (u .forms))
+                  (same-request (readRequest t) joined q o z)),
+              (
+                (λ q z. p .stored policyGot (pg .rest) (pg .is) ∙ ap (λ u. table lineEntry (p .len) (u .lines))
+                    (same-request (readRequest t) joined q o z)),
+                (λ q z. s .stored (sg .rows) (sg .rest) (sg .is) ∙ ap (λ u. table stepEntry (s .len) (u .steps))
+                    (same-request (readRequest t) joined q o z)),
+              ),
+            ),
+          )
 
 pub refused-answer : (o : Outcome) (x : Refusal) → o ≡ refused (x .number) (x .place) → Reading.Refused x ≡ readingOf o
 unfolding readingOf
 refused-answer o x e = rw e refl
+
+-- A refused text answers so, and says nothing of the tables.
+pub refused-all : {A B C : Request → Type 0} (o : Outcome) (x y : Refusal) → y ≡ x → o ≡ refused (x .number) (x .place)
+    → (Reading.Refused y ≡ readingOf o) ×
+    (((q : Request) → o ≡ read q → A q) × (((q : Request) → o ≡ read q → B q) × ((q : Request) → o ≡ read q → C q)))
+refused-all o x y r e = (
+  ap Reading.Refused r ∙ refused-answer o x e,
+  (
+    (λ q z. outcome-never o (x .number) (x .place) q e z),
+    ((λ q z. outcome-never o (x .number) (x .place) q e z), (λ q z. outcome-never o (x .number) (x .place) q e z)),
+  ),
+)
 
 pub refused-outcome : (o : Outcome) (x : Refusal) → readingOf o ≡ Reading.Refused x → o ≡ refused (x .number) (x .place)
 unfolding readingOf
@@ -224,15 +270,15 @@ module _ (forms lines steps : ℕ) (s : List ℕ) where
 
 -- The tables after a refusal, and after a request was read.
 module _ (len : ℕ) (o : Outcome) where
-  pub forms-zero : (k i : ℕ) → o ≡ refused k i → replicate len 0 ≡ formTableAfter len o
+  forms-zero : (k i : ℕ) → o ≡ refused k i → replicate len 0 ≡ formTableAfter len o
   unfolding formTableAfter requestIn
   forms-zero k i e = rw e (sym (table-none formEntry len))
 
-  pub lines-zero : (k i : ℕ) → o ≡ refused k i → replicate len 0 ≡ lineTableAfter len o
+  lines-zero : (k i : ℕ) → o ≡ refused k i → replicate len 0 ≡ lineTableAfter len o
   unfolding lineTableAfter requestIn
   lines-zero k i e = rw e (sym (table-none lineEntry len))
 
-  pub steps-zero : (k i : ℕ) → o ≡ refused k i → replicate len 0 ≡ stepTableAfter len o
+  steps-zero : (k i : ℕ) → o ≡ refused k i → replicate len 0 ≡ stepTableAfter len o
   unfolding stepTableAfter requestIn
   steps-zero k i e = rw e (sym (table-none stepEntry len))
 
@@ -247,6 +293,22 @@ module _ (len : ℕ) (o : Outcome) where
   pub steps-stored : (q : Request) → o ≡ read q → table stepEntry len (q .steps) ≡ stepTableAfter len o
   unfolding stepTableAfter requestIn
   steps-stored q e = rw e refl
+
+-- Three tables that are all zero, and what they are after a refusal.
+pub record Cleared (forms lines steps : ℕ) : Type 0 where
+  pub formTable : List ℕ
+  pub lineTable : List ℕ
+  pub stepTable : List ℕ
+  pub formsClear : formTable ≡ replicate forms 0
+  pub linesClear : lineTable ≡ replicate lines 0
+  pub stepsClear : stepTable ≡ replicate steps 0
+
+pub tables-zero : {forms lines steps : ℕ} (k : Cleared forms lines steps) (o : Outcome) (x : Refusal) → o ≡ refused (x .number) (x .place)
+    → (k .formTable ≡ formTableAfter forms o) × ((k .lineTable ≡ lineTableAfter lines o) × (k .stepTable ≡ stepTableAfter steps o))
+tables-zero {forms} {lines} {steps} k o x e = (
+  k .formsClear ∙ forms-zero forms o (x .number) (x .place) e,
+  (k .linesClear ∙ lines-zero lines o (x .number) (x .place) e, k .stepsClear ∙ steps-zero steps o (x .number) (x .place) e),
+)
 
 -- Room for the largest counts.
 pub record Room (forms lines steps : ℕ) : Type 0 where

@@ -1,15 +1,16 @@
 -- One turn of each loop over lines, and the ways in which sections end.
-use Prim.Native.Nat.{ℕ, suc, _+_, _-_, _≤_, _<_}
+use Prim.Native.Nat.{ℕ, suc, _+_, _-_, _*_, _≤_, _<_}
+use Prim.Native.String.{String}
 use native.Mathlib.Nat.{sub-zero}
 use native.Mathlib.Omega.{arith}
 use mathlib.Core.Path.{_≡_, refl, ap, sym, subst, _∙_}
 use mathlib.Core.List.{List, [], _∷_, _++_}
-use lib.ListN.{length}
-use Rattle.scope.specs.Tests.{never}
+use lib.ListN.{length, set, replicate, length-append, length-set}
 use Rattle.scope.specs.Bytes.{bytes}
 use Rattle.scope.specs.Number.{number}
 use Rattle.scope.specs.Request.{Row}
 use Rattle.scope.specs.Line.{Value, val, out, Read, ok, bad, Reader, judged, line, after, _>>=_, many}
+use Rattle.scope.specs.Tables.{Entry, table, formEntry, lineEntry, stepEntry}
 use Rattle.scope.specs.Kinds.{formKinds, stepKinds, rowIn}
 use Rattle.scope.specs.Limits.{versionAt, principalsAt, atomsAt, formulasAt, clauseAt, stepAt}
 use Rattle.scope.specs.Refusals.{rowRefusal, formRefusal, stepRefusal, versionRefusal, principalsRefusal, atomsRefusal, formulasRefusal}
@@ -17,98 +18,206 @@ use Rattle.scope.specs.Text.{versionLine, principalsLine, atomsLine, formulasLi
 use Rattle.scope.specs.Reader.{formItem, stepItem}
 use Rattle.classes.specs.Class.{policyIn}
 use Rattle.lines.specs.Parts.{valueOf, restOf}
+use Rattle.lines.specs.Values.{Behind}
+use Rattle.counts.specs.declared.Refusal.{Refusal}
+use Rattle.steps.specs.declared.Step.{Step}
+use Rattle.steps.specs.declared.Pair.{Pair}
+use Rattle.steps.specs.Steps.{pairOf}
 use Rattle.refusals.specs.Rows.{row}
 use Rattle.reader.specs.Sections.{Counted, headPart, classRefusal, classedItem}
-use Rattle.reader.specs.Answers.{refusalIs, numberLineOf, sectionOf, headOf}
-use Rattle.reader.specs.Lines.{no-form, no-step, row-ok, row-bad, value-ok, value-bad}
+use Rattle.reader.specs.Answers.{refusalIs, numberLineOf, rowLineOf, stepLineOf, sectionOf, headOf}
+use Rattle.reader.specs.Lines.{no-form, no-step, out-row, val-row, out-step, Step-row, step-row, row-ok, row-bad, row-behind, value-ok, value-bad, value-behind}
 use Rattle.reader.specs.Many.{onto, many-more, many-stop, many-end, many-start, tail-length, rest-tail}
+use Rattle.reader.specs.Stored.{table-none, form-more, line-more, step-more}
+use Rattle.reader.specs.Got.{partFrom, never-both, same-things}
+use Rattle.reader.specs.declared.NumberLine.{NumberLine}
 use Rattle.reader.specs.declared.NumberLine.the-variants as NumberLine
+use Rattle.reader.specs.declared.RowLine.{RowLine}
+use Rattle.reader.specs.declared.RowLine.the-variants as RowLine
+use Rattle.reader.specs.declared.StepLine.{StepLine}
+use Rattle.reader.specs.declared.StepLine.the-variants as StepLine
 use Rattle.reader.specs.declared.Section.the-variants as Section
 use Rattle.reader.specs.declared.Head.the-variants as Head
 
 pub rest-short : (s rest : List ℕ) → rest ≡ restOf s → length rest ≤ length s
 rest-short s rest e = omega (arith, ap length e, tail-length (restOf s) s (rest-tail s))
 
-module _ {A : Type 0} (item : List A → Reader A) where
-  pub turns-begin : (n : ℕ) (s : List ℕ) → many item n [] s ≡ onto [] (many item (n - 0) [] s)
-  turns-begin n s = rw (sub-zero n) (many-start item n s)
-
-  module _ (n i : ℕ) (before : List A) (s : List ℕ) (whole : Read (List A)) (so : whole ≡ onto before (many item (n - i) before s)) where
-    pub turn-more : i < n → (a : A) (rest : List ℕ) → item before s ≡ ok a rest
-        → whole ≡ onto (before ++ (a ∷ [])) (many item (n - (i + 1)) (before ++ (a ∷ [])) rest)
-    turn-more h a rest e =
-        let f : n - i ≡ suc (n - (i + 1)) = omega arith in
-        so ∙ ap (λ m. onto before (many item m before s)) f ∙ many-more item (n - (i + 1)) before s rest a e
-
-    pub turn-stops : i < n → (k j : ℕ) → item before s ≡ bad k j → whole ≡ bad k j
-    turn-stops h k j e =
-        let f : n - i ≡ suc (n - (i + 1)) = omega arith in
-        so ∙ ap (λ m. onto before (many item m before s)) f ∙ many-stop item (n - (i + 1)) before s k j e
-
-    pub turns-end : n ≤ i → whole ≡ ok before s
-    turns-end h =
-        let f : n - i ≡ 0 = omega arith in
-        so ∙ ap (λ m. onto before (many item m before s)) f ∙ many-end item before s
-
 -- The answer of a section, and what it says of the things read.
 module _ {A : Type 0} (n : ℕ) (r : Read (List A)) where
-  pub section-refused : (k i : ℕ) → r ≡ bad k i → Section.Refused (refusalIs k i) ≡ sectionOf n r
+  section-refused : {X : List A → List ℕ → Type 0} (k i : ℕ) → r ≡ bad k i → (x : Refusal) → x ≡ refusalIs k i
+      → (Section.Refused x ≡ sectionOf n r) × ((xs : List A) (rest : List ℕ) → r ≡ ok xs rest → X xs rest)
   unfolding sectionOf
-  section-refused k i e = rw e refl
+  section-refused k i e x d = (ap Section.Refused d ∙ rw e refl, λ xs rest f. never-both r k i xs rest e f)
 
-  pub section-read : (xs : List A) (rest : List ℕ) → r ≡ ok xs rest → Section.Read (n - length rest) ≡ sectionOf n r
+  section-read : (entry : Entry A) (len : ℕ) (numbers : List ℕ) (xs : List A) (rest : List ℕ) → r ≡ ok xs rest → numbers ≡ table entry len xs
+      → (Section.Read (n - length rest) ≡ sectionOf n r) × ((ys : List A) (over : List ℕ) → r ≡ ok ys over → numbers ≡ table entry len ys)
   unfolding sectionOf
-  section-read xs rest e = rw e refl
+  section-read entry len numbers xs rest e d = (rw e refl, λ ys over f. d ∙ ap (table entry len) (same-things r xs ys rest over e f))
 
-pub never-both : {A : Type 0} {X : Type 0} (r : Read A) (k i : ℕ) (a : A) (rest : List ℕ) → r ≡ bad k i → r ≡ ok a rest → X
-never-both r k i a rest e f = never cc
+-- A loop over n lines after i of them: the things read so far stand in the table, and what is left of the text gives the others.
+pub record Turns {A : Type 0} (entry : Entry A) (item : List A → Reader A) (n : ℕ) (text : List ℕ) (len : ℕ) (numbers rest : List ℕ)
+    (i : ℕ) : Type 0 where
+  pub before : List A
+  pub count : length before ≡ i
+  pub within : i ≤ n
+  pub long : length numbers ≡ len
+  pub stored : numbers ≡ table entry len before
+  pub whole : many item n [] text ≡ onto before (many item (n - i) before rest)
+  pub inside : length rest ≤ length text
 
-pub same-things : {A : Type 0} (r : Read A) (a b : A) (s t : List ℕ) → r ≡ ok a s → r ≡ ok b t → a ≡ b
-same-things r a b s t e f = cc
+module _ {A : Type 0} (entry : Entry A) (item : List A → Reader A) (n : ℕ) (text : List ℕ) where
+  pub turns-begin : (numbers : List ℕ) → numbers ≡ replicate (length numbers) 0 → Turns entry item n text (length numbers) numbers text 0
+  turns-begin numbers z =
+      record {
+        before = [];
+        count = refl;
+        within = omega arith;
+        long = refl;
+        stored = z ∙ sym (table-none entry (length numbers));
+        whole = rw (sub-zero n) (many-start item n text);
+        inside = omega arith;
+      }
 
--- A `form=` line behind those before it, by its value v.
-module _ (principals atoms : ℕ) (before : List Row) (s v : List ℕ) (part : v ≡ valueOf (bytes "form=") s) (i : ℕ) (is : length before ≡ i) where
-  at-length : (a : Value Row) → judged (rowRefusal formKinds principals atoms i) (rowIn formKinds v) ≡ a
-      → judged (rowRefusal formKinds principals atoms (length before)) (rowIn formKinds v) ≡ a
-  at-length a h = subst (λ j. judged (rowRefusal formKinds principals atoms j) (rowIn formKinds v) ≡ a) (sym is) h
+  module _ {len : ℕ} {numbers rest : List ℕ} {i : ℕ} (k : Turns entry item n text len numbers rest i) where
+    pub turns-end : n ≤ i → (Section.Read (length text - length rest) ≡ sectionOf (length text) (many item n [] text)) ×
+        ((xs : List A) (over : List ℕ) → many item n [] text ≡ ok xs over → numbers ≡ table entry len xs)
+    turns-end h =
+        let f : n - i ≡ 0 = omega arith in
+        let e = k .whole ∙ ap (λ m. onto (k .before) (many item m (k .before) rest)) f ∙ many-end item (k .before) rest in
+        section-read (length text) (many item n [] text) entry len numbers (k .before) rest e (k .stored)
 
-  pub form-ok : (rest : List ℕ) (k l r : ℕ) → rest ≡ restOf s
-      → judged (rowRefusal formKinds principals atoms i) (rowIn formKinds v) ≡ val (row k l r)
-      → formItem principals atoms before s ≡ ok (row k l r) rest
+    module _ (h : i < n) where
+      one-turn : many item n [] text ≡ onto (k .before) (many item (suc (n - (i + 1))) (k .before) rest)
+      one-turn =
+          let f : n - i ≡ suc (n - (i + 1)) = omega arith in
+          k .whole ∙ ap (λ m. onto (k .before) (many item m (k .before) rest)) f
+
+      turn-stops : {X : List A → List ℕ → Type 0} (j place : ℕ) → item (k .before) rest ≡ bad j place → (x : Refusal) → x ≡ refusalIs j place
+          → (Section.Refused x ≡ sectionOf (length text) (many item n [] text)) ×
+          ((xs : List A) (over : List ℕ) → many item n [] text ≡ ok xs over → X xs over)
+      turn-stops j place e x d =
+          section-refused (length text) (many item n [] text) j place
+          (one-turn ∙ many-stop item (n - (i + 1)) (k .before) rest j place e) x d
+
+      turn-more : (a : A) (m : ℕ) → Behind rest m → item (k .before) rest ≡ ok a (partFrom m rest) → (after : List ℕ)
+          → length after ≡ length numbers
+          → after ≡ table entry len (k .before ++ (a ∷ [])) → Turns entry item n text len after (partFrom m rest) (i + 1)
+      turn-more a m b e after l d =
+          record {
+            before = k .before ++ (a ∷ []);
+            count = omega (arith, length-append (k .before) (a ∷ []), k .count);
+            within = omega arith;
+            long = l ∙ k .long;
+            stored = d;
+            whole = one-turn ∙ many-more item (n - (i + 1)) (k .before) rest (partFrom m rest) a e;
+            inside = omega (arith, rest-short rest (partFrom m rest) (b .rest), k .inside);
+          }
+
+-- A line that the code asked about: its value, and the answer.
+pub record Line-asked {R : Type 0} (key : String) (asked : List ℕ → R) (s : List ℕ) : Type 0 where
+  pub value : List ℕ
+  pub part : value ≡ valueOf (bytes key) s
+  pub answer : R
+  pub about : answer ≡ asked value
+
+-- One turn over `form=` lines. The line is its key, its value and the LF, for no row has an empty value: the rest begins behind them.
+abbrev pub formAsked : ℕ → ℕ → ℕ → List ℕ → RowLine
+formAsked principals atoms i v = rowLineOf (judged (rowRefusal formKinds principals atoms i) (rowIn formKinds v))
+
+module _ (principals atoms : ℕ) {n : ℕ} {text : List ℕ} {len : ℕ} {numbers s : List ℕ} {i : ℕ}
+    (k : Turns formEntry (formItem principals atoms) n text len numbers s i) (h : i < n)
+    (q : Line-asked "form=" (formAsked principals atoms i) s) where
+  at-length : (a : Value Row) → judged (rowRefusal formKinds principals atoms i) (rowIn formKinds (q .value)) ≡ a
+      → judged (rowRefusal formKinds principals atoms (length (k .before))) (rowIn formKinds (q .value)) ≡ a
+  at-length a e = subst (λ j. judged (rowRefusal formKinds principals atoms j) (rowIn formKinds (q .value)) ≡ a) (sym (k .count)) e
+
+  pub form-stops : {X : List Row → List ℕ → Type 0} (j : ℕ) → q .answer ≡ RowLine.Refused j → (x : Refusal) → x ≡ refusalIs j (5 + i)
+      → (Section.Refused x ≡ sectionOf (length text) (many (formItem principals atoms) n [] text)) ×
+      ((rows : List Row) (over : List ℕ) → many (formItem principals atoms) n [] text ≡ ok rows over → X rows over)
   unfolding formRefusal
-  form-ok rest k l r e h =
-      row-ok "form=" formKinds (formRefusal principals atoms before) s v part no-form (5 + length before) rest k l r e
-      (at-length (val (row k l r)) h)
+  form-stops j e x d =
+      turn-stops formEntry (formItem principals atoms) n text k h j (5 + i)
+      (row-bad "form=" formKinds (formRefusal principals atoms (k .before)) s (q .value) (q .part) no-form (5 + length (k .before)) j
+      (at-length (out j) (out-row (judged (rowRefusal formKinds principals atoms i) (rowIn formKinds (q .value))) j (sym (q .about) ∙ e))) ∙
+      ap (λ m. bad j (5 + m)) (k .count)) x d
 
-  pub form-bad : (k : ℕ) → judged (rowRefusal formKinds principals atoms i) (rowIn formKinds v) ≡ out k
-      → formItem principals atoms before s ≡ bad k (5 + i)
-  unfolding formRefusal
-  form-bad k h =
-      row-bad "form=" formKinds (formRefusal principals atoms before) s v part no-form (5 + length before) k
-      (at-length (out k) h) ∙ ap (λ j. bad k (5 + j)) is
+  module _ (a l r : ℕ) (e : q .answer ≡ RowLine.Row a l r) where
+    form-is : judged (rowRefusal formKinds principals atoms i) (rowIn formKinds (q .value)) ≡ val (row a l r)
+    form-is = val-row (judged (rowRefusal formKinds principals atoms i) (rowIn formKinds (q .value))) a l r (sym (q .about) ∙ e)
 
-module _ (classes : List ℕ) (formulas : ℕ) (before s v : List ℕ) (part : v ≡ valueOf (bytes "clause=") s) (i : ℕ) (is : length before ≡ i) where
-  pub clause-ok : (rest : List ℕ) (f : ℕ) → rest ≡ restOf s
-      → numberLineOf (judged (classRefusal policyIn classes formulas) (number v)) ≡ NumberLine.Number f
-      → classedItem classes formulas before s ≡ ok f rest
-  clause-ok rest f e h = value-ok "clause=" (classRefusal policyIn classes formulas) s v part (clauseAt formulas (length before)) rest f e h
+    pub form-behind : Behind s (length (q .value) + 6)
+    form-behind = row-behind "form=" formKinds (rowRefusal formKinds principals atoms i) s (q .value) (q .part) no-form a l r form-is
 
-  pub clause-bad : (k : ℕ) → numberLineOf (judged (classRefusal policyIn classes formulas) (number v)) ≡ NumberLine.Refused k
-      → classedItem classes formulas before s ≡ bad k (clauseAt formulas i)
-  clause-bad k h =
-      value-bad "clause=" (classRefusal policyIn classes formulas) s v part (clauseAt formulas (length before)) k h ∙
-      ap (λ j. bad k (clauseAt formulas j)) is
+    pub form-turn : 3 * i + 3 ≤ len → Turns formEntry (formItem principals atoms) n text len
+        (set (set (set numbers (3 * i) a) (3 * i + 1) l) (3 * i + 2) r) (partFrom (length (q .value) + 6) s) (i + 1)
+    unfolding formRefusal
+    form-turn room =
+        turn-more formEntry (formItem principals atoms) n text k h (row a l r) (length (q .value) + 6) form-behind
+        (row-ok "form=" formKinds (formRefusal principals atoms (k .before)) s (q .value) (q .part) no-form (5 + length (k .before))
+        (partFrom (length (q .value) + 6) s) a l r (form-behind .rest) (at-length (val (row a l r)) form-is))
+        (set (set (set numbers (3 * i) a) (3 * i + 1) l) (3 * i + 2) r) (simp length-set)
+        (form-more len numbers (3 * i) (k .before) a l r (k .stored) (omega (arith, k .count)) room)
 
-module _ (formulas clauses : ℕ) (before : List Row) (s v : List ℕ) (part : v ≡ valueOf (bytes "step=") s) (i : ℕ) (is : length before ≡ i) where
-  pub step-ok : (rest : List ℕ) (k l r : ℕ) → rest ≡ restOf s → judged stepRefusal (rowIn stepKinds v) ≡ val (row k l r)
-      → stepItem formulas clauses before s ≡ ok (row k l r) rest
-  step-ok rest k l r e h = row-ok "step=" stepKinds stepRefusal s v part no-step (stepAt formulas clauses (suc (length before))) rest k l r e h
+-- And over `clause=` lines.
+abbrev pub clauseAsked : List ℕ → ℕ → List ℕ → NumberLine
+clauseAsked classes formulas v = numberLineOf (judged (classRefusal policyIn classes formulas) (number v))
 
-  pub step-bad : (k : ℕ) → judged stepRefusal (rowIn stepKinds v) ≡ out k
-      → stepItem formulas clauses before s ≡ bad k (8 + formulas + clauses + i)
-  step-bad k h =
-      row-bad "step=" stepKinds stepRefusal s v part no-step (stepAt formulas clauses (suc (length before))) k h ∙
-      ap (λ j. bad k j) (let e : stepAt formulas clauses (suc (length before)) ≡ 8 + formulas + clauses + i = omega arith in e)
+module _ (classes : List ℕ) (formulas : ℕ) {n : ℕ} {text : List ℕ} {len : ℕ} {numbers s : List ℕ} {i : ℕ}
+    (k : Turns lineEntry (classedItem classes formulas) n text len numbers s i) (h : i < n)
+    (q : Line-asked "clause=" (clauseAsked classes formulas) s) where
+  pub clause-stops : {X : List ℕ → List ℕ → Type 0} (j : ℕ) → q .answer ≡ NumberLine.Refused j → (x : Refusal)
+      → x ≡ refusalIs j (6 + formulas + i)
+      → (Section.Refused x ≡ sectionOf (length text) (many (classedItem classes formulas) n [] text)) ×
+      ((lines : List ℕ) (over : List ℕ) → many (classedItem classes formulas) n [] text ≡ ok lines over → X lines over)
+  clause-stops j e x d =
+      turn-stops lineEntry (classedItem classes formulas) n text k h j (6 + formulas + i)
+      (value-bad "clause=" (classRefusal policyIn classes formulas) s (q .value) (q .part) (clauseAt formulas (length (k .before))) j
+      (sym (q .about) ∙ e) ∙ ap (λ m. bad j (clauseAt formulas m)) (k .count)) x d
+
+  module _ (f : ℕ) (e : q .answer ≡ NumberLine.Number f) where
+    pub clause-behind : Behind s (length (q .value) + 8)
+    clause-behind = value-behind "clause=" (classRefusal policyIn classes formulas) s (q .value) (q .part) f (sym (q .about) ∙ e)
+
+    pub clause-turn : i + 1 ≤ len → Turns lineEntry (classedItem classes formulas) n text len (set numbers i f)
+        (partFrom (length (q .value) + 8) s) (i + 1)
+    clause-turn room =
+        turn-more lineEntry (classedItem classes formulas) n text k h f (length (q .value) + 8) clause-behind
+        (value-ok "clause=" (classRefusal policyIn classes formulas) s (q .value) (q .part) (clauseAt formulas (length (k .before)))
+        (partFrom (length (q .value) + 8) s) f (clause-behind .rest) (sym (q .about) ∙ e)) (set numbers i f) (simp length-set)
+        (line-more len numbers i (k .before) f (k .stored) (omega (arith, k .count)) room)
+
+-- And over `step=` lines, whose steps stand in the table as pairs.
+abbrev pub stepAsked : List ℕ → StepLine
+stepAsked v = stepLineOf (judged stepRefusal (rowIn stepKinds v))
+
+module _ (formulas clauses : ℕ) {n : ℕ} {text : List ℕ} {len : ℕ} {numbers s : List ℕ} {i : ℕ}
+    (k : Turns stepEntry (stepItem formulas clauses) n text len numbers s i) (h : i < n) (q : Line-asked "step=" stepAsked s) where
+  pub step-stops : {X : List Row → List ℕ → Type 0} (j : ℕ) → q .answer ≡ StepLine.Refused j → (x : Refusal)
+      → x ≡ refusalIs j (8 + formulas + clauses + i)
+      → (Section.Refused x ≡ sectionOf (length text) (many (stepItem formulas clauses) n [] text)) ×
+      ((rows : List Row) (over : List ℕ) → many (stepItem formulas clauses) n [] text ≡ ok rows over → X rows over)
+  step-stops j e x d =
+      let place : stepAt formulas clauses (suc (length (k .before))) ≡ 8 + formulas + clauses + i = omega (arith, k .count) in
+      turn-stops stepEntry (stepItem formulas clauses) n text k h j (8 + formulas + clauses + i)
+      (row-bad "step=" stepKinds stepRefusal s (q .value) (q .part) no-step (stepAt formulas clauses (suc (length (k .before)))) j
+      (out-step (judged stepRefusal (rowIn stepKinds (q .value))) j (sym (q .about) ∙ e)) ∙ ap (λ m. bad j m) place) x d
+
+  module _ (x : Step) (e : q .answer ≡ StepLine.Step x) where
+    found : Step-row (rowIn stepKinds (q .value)) x
+    found = step-row (rowIn stepKinds (q .value)) x (sym (q .about) ∙ e)
+
+    pub step-behind : Behind s (length (q .value) + 6)
+    step-behind = row-behind "step=" stepKinds stepRefusal s (q .value) (q .part) no-step (found .kind) (found .number) 0 (found .is)
+
+    pub step-turn : (p : Pair) → p ≡ pairOf x → 2 * i + 2 ≤ len → Turns stepEntry (stepItem formulas clauses) n text len
+        (set (set numbers (2 * i) (p .kind)) (2 * i + 1) (p .number)) (partFrom (length (q .value) + 6) s) (i + 1)
+    step-turn p d room =
+        turn-more stepEntry (stepItem formulas clauses) n text k h (row (found .kind) (found .number) 0) (length (q .value) + 6) step-behind
+        (row-ok "step=" stepKinds stepRefusal s (q .value) (q .part) no-step (stepAt formulas clauses (suc (length (k .before))))
+        (partFrom (length (q .value) + 6) s) (found .kind) (found .number) 0 (step-behind .rest) (found .is))
+        (set (set numbers (2 * i) (p .kind)) (2 * i + 1) (p .number)) (simp length-set)
+        (ap (λ (y : Pair). set (set numbers (2 * i) (y .kind)) (2 * i + 1) (y .number)) (d ∙ found .stored) ∙
+        step-more len numbers (2 * i) (k .before) (found .kind) (found .number) 0 (k .stored) (omega (arith, k .count)) room)
 
 -- The first four lines.
 module _ (s : List ℕ) where

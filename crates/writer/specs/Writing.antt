@@ -1,7 +1,6 @@
 -- What the writer answers, as document 01 says it.
 use Prim.Native.Nat.{ℕ, zero, suc, _≤_, _<_}
 use native.Mathlib.Nat.{sub-zero}
-use native.Mathlib.Omega.{arith}
 use mathlib.Core.Path.{_≡_, refl, ap, sym, _∙_}
 use mathlib.Core.List.{List, []}
 use borrow.Author.Tests.{le-leb, lt-leb}

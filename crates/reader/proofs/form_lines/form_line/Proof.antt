@@ -3,11 +3,25 @@ use mathlib.Core.Path.{sym, _∙_}
 use Rattle.scope.specs.Kinds.{formKinds}
 use Rattle.scope.specs.Refusals.{rowRefusal}
 use Rattle.reader.specs.Lines.{row-out, row-val, row-lost, row-turned, row-taken}
-use Rattle.refusals.specs.Rows.{form-small}
+use Rattle.refusals.specs.Rows.{Small, form-small}
 use borrow.Author.Needs.{needs}
 use native.Mathlib.Omega.{arith}
 use Rattle.reader.proofs.form_lines.form_line.Statement.{statement}
 use Rattle.reader.proofs.form_lines.form_line.Tie as tie
+
+-- A row with no refusal.
+small : (c : tie.Else1) → Small (c .before .before .before .before .before .before .before .args .principals)
+    (c .before .before .before .before .before .before .before .args .atoms)
+    (c .before .before .before .before .before .before .before .args .formula) (c .before .before .before .got .given .0 .1 .0)
+    (c .before .before .before .got .given .0 .1 .1 .0) (c .before .before .before .got .given .0 .0)
+small c =
+    form-small (c .before .before .before .before .before .before .before .args .principals)
+    (c .before .before .before .before .before .before .before .args .atoms)
+    (c .before .before .before .before .before .before .before .args .formula) (c .before .before .before .got .given .0 .1 .0)
+    (c .before .before .before .got .given .0 .1 .1 .0) (c .before .before .before .before .before .before .before .fits .principals .fits)
+    (c .before .before .before .before .before .before .before .fits .atoms .fits)
+    (c .before .before .before .before .before .before .before .fits .formula .fits)
+    (c .before .before .before .got .given .0 .0) (sym (c .before .form-refusal .ensures) ∙ c .if1 .left)
 
 form-row-requires : tie.Need-form-row-requires
 form-row-requires c κs = search needs
@@ -30,7 +44,8 @@ form-refusal-requires c κs = search needs
 
 returns-2 : tie.Need-returns-2
 returns-2 c =
-    row-out _ (c .before .form-refusal .result) (row-turned formKinds (rowRefusal formKinds (c .before .before .before .before .before .before .before .args .principals)
+    row-out _ (c .before .form-refusal .result)
+    (row-turned formKinds (rowRefusal formKinds (c .before .before .before .before .before .before .before .args .principals)
     (c .before .before .before .before .before .before .before .args .atoms)
     (c .before .before .before .before .before .before .before .args .formula))
     (c .before .before .before .before .before .before .before .args .value .now)
@@ -41,45 +56,19 @@ returns-2 c =
     (c .before .form-refusal .result) (c .before .form-refusal .ensures) (c .if1 .taken))
 
 cast-k : tie.Need-cast-k
-cast-k c =
-    let s = form-small (c .before .before .before .before .before .before .before .args .principals)
-    (c .before .before .before .before .before .before .before .args .atoms)
-    (c .before .before .before .before .before .before .before .args .formula)
-    (c .before .before .before .got .given .0 .1 .0) (c .before .before .before .got .given .0 .1 .1 .0)
-    (c .before .before .before .before .before .before .before .fits .principals .fits)
-    (c .before .before .before .before .before .before .before .fits .atoms .fits)
-    (c .before .before .before .before .before .before .before .fits .formula .fits)
-    (c .before .before .before .got .given .0 .0) (sym (c .before .form-refusal .ensures) ∙ c .if1 .left) in
-    omega (arith, s .kinds)
+cast-k c = omega (arith, small c .kinds)
 
 cast-x : tie.Need-cast-x
-cast-x c =
-    let s = form-small (c .before .before .before .before .before .before .before .args .principals)
-    (c .before .before .before .before .before .before .before .args .atoms)
-    (c .before .before .before .before .before .before .before .args .formula)
-    (c .before .before .before .got .given .0 .1 .0) (c .before .before .before .got .given .0 .1 .1 .0)
-    (c .before .before .before .before .before .before .before .fits .principals .fits)
-    (c .before .before .before .before .before .before .before .fits .atoms .fits)
-    (c .before .before .before .before .before .before .before .fits .formula .fits)
-    (c .before .before .before .got .given .0 .0) (sym (c .before .form-refusal .ensures) ∙ c .if1 .left) in
-    omega (arith, s .lefts)
+cast-x c = omega (arith, small c .lefts)
 
 cast-y : tie.Need-cast-y
-cast-y c =
-    let s = form-small (c .before .before .before .before .before .before .before .args .principals)
-    (c .before .before .before .before .before .before .before .args .atoms)
-    (c .before .before .before .before .before .before .before .args .formula)
-    (c .before .before .before .got .given .0 .1 .0) (c .before .before .before .got .given .0 .1 .1 .0)
-    (c .before .before .before .before .before .before .before .fits .principals .fits)
-    (c .before .before .before .before .before .before .before .fits .atoms .fits)
-    (c .before .before .before .before .before .before .before .fits .formula .fits)
-    (c .before .before .before .got .given .0 .0) (sym (c .before .form-refusal .ensures) ∙ c .if1 .left) in
-    omega (arith, s .rights)
+cast-y c = omega (arith, small c .rights)
 
 returns-3 : tie.Need-returns-3
 returns-3 c =
     row-val _ (c .before .before .before .got .given .0 .0) (c .before .before .before .got .given .0 .1 .0)
-    (c .before .before .before .got .given .0 .1 .1 .0) (row-taken formKinds (rowRefusal formKinds (c .before .before .before .before .before .before .before .args .principals)
+    (c .before .before .before .got .given .0 .1 .1 .0)
+    (row-taken formKinds (rowRefusal formKinds (c .before .before .before .before .before .before .before .args .principals)
     (c .before .before .before .before .before .before .before .args .atoms)
     (c .before .before .before .before .before .before .before .args .formula))
     (c .before .before .before .before .before .before .before .args .value .now)

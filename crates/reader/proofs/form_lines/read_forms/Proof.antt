@@ -1,23 +1,13 @@
 -- `reader::form_lines::read_forms` meets its contract: the table holds the formulas read so far, and what is left of the text gives the others. The measure is
 -- the formulas that are left.
-use Prim.Native.Nat.{_+_, _-_, _*_, _≤_}
-use mathlib.Core.Path.{_≡_, refl, ap, sym, _∙_}
-use mathlib.Core.List.{List, [], _∷_, _++_}
-use lib.ListN.{length, take, drop, length-append, length-set}
-use Rattle.scope.specs.Line.{many}
-use Rattle.scope.specs.Kinds.{formKinds}
-use Rattle.scope.specs.Refusals.{rowRefusal}
-use Rattle.scope.specs.Request.{Row}
+use Prim.Native.Nat.{_+_, _-_, _*_, _≤_, _<_}
+use mathlib.Core.Path.{ap, _∙_}
+use lib.ListN.{length, length-set}
 use Rattle.scope.specs.Reader.{formItem}
-use Rattle.scope.specs.Tables.{table, formEntry}
-use Rattle.refusals.specs.Rows.{row}
+use Rattle.scope.specs.Tables.{formEntry}
 use Rattle.lines.specs.Values.{Behind}
 use Rattle.reader.specs.Answers.{refusalIs, rowRefused}
-use Rattle.reader.specs.Lines.{no-form, out-row, val-row, row-behind}
-use Rattle.reader.specs.Many.{onto}
-use Rattle.reader.specs.Stored.{table-none, form-more}
-use Rattle.reader.specs.Turns.{rest-short, turns-begin, turn-more, turn-stops, turns-end, section-refused, section-read, never-both, same-things, form-ok, form-bad}
-use Rattle.reader.specs.declared.Section.the-variants as Section
+use Rattle.reader.specs.Turns.{Turns, turns-begin, turns-end, Line-asked, formAsked, form-stops, form-behind, form-turn}
 use borrow.Author.Needs.{needs}
 use native.Mathlib.Omega.{arith}
 use Rattle.reader.proofs.form_lines.read_forms.Statement.{statement}
@@ -25,25 +15,52 @@ use Rattle.reader.proofs.form_lines.read_forms.Tie as tie
 
 abbrev Inv-loop : tie.InvT-loop
 Inv-loop text principals atoms formulas forms₀ rest₀ i₀ key forms rest i =
-    (before : List Row) × (length before ≡ i) × (i ≤ formulas) × (length forms ≡ length forms₀) ×
-    (forms ≡ table formEntry (length forms₀) before) ×
-    (many (formItem principals atoms) formulas [] text ≡ onto before (many (formItem principals atoms) (formulas - i) before rest)) ×
-    (length rest ≤ length text)
+    Turns formEntry (formItem principals atoms) formulas text (length forms₀) forms rest i
 
 abbrev μ-loop : tie.MeasureT-loop
 μ-loop text principals atoms formulas forms₀ rest₀ i₀ key forms rest i = formulas - i
 
+-- The line that a turn asks about.
+abbrev line : (c : tie.After-form-line Inv-loop μ-loop) → Line-asked "form="
+    (formAsked (c .before .before .before .before .before .before .before .args .principals)
+    (c .before .before .before .before .before .before .before .args .atoms) (c .before .before .before .before .loop .i))
+    (c .before .before .before .before .loop .rest .now)
+line c =
+    record { value = c .before .value-of .result .now; part = c .before .value-of .ensures; answer = c .form-line .result; about = c .form-line .ensures }
+
+-- A line that gives a row: the text goes on behind it, and the table has room for the row.
+behind : (c : tie.After-known-told Inv-loop μ-loop) → Behind (c .before .before .before .before .before .before .before .loop .rest .now)
+    (length (c .before .before .before .before .value-of .result .now) + 6)
+behind c =
+    form-behind (c .before .before .before .before .before .before .before .before .before .before .args .principals)
+    (c .before .before .before .before .before .before .before .before .before .before .args .atoms)
+    (c .before .before .before .before .before .before .before .loop .inv) (c .before .before .before .before .before .before .loop-test .taken)
+    (line (c .before .before .before))
+    (c .before .got .given .0 .0) (c .before .got .given .0 .1 .0) (c .before .got .given .0 .1 .1 .0) (c .before .got .given .1)
+
+few : (c : tie.After-known-told Inv-loop μ-loop) → c .before .before .before .before .before .before .before .loop .i < 1024
+few c =
+    omega (
+      arith,
+      c .before .before .before .before .before .before .before .before .before .before .pre .0,
+      c .before .before .before .before .before .before .loop-test .taken,
+    )
+
+room : (c : tie.After-known-told Inv-loop μ-loop) → 3 * c .before .before .before .before .before .before .before .loop .i + 3 ≤ length
+    (c .before .before .before .before .before .before .before .loop .forms)
+room c =
+    omega (
+      arith,
+      few c,
+      c .before .before .before .before .before .before .before .before .before .before .pre .1,
+      c .before .before .before .before .before .before .before .loop .inv .long,
+    )
+
 loop-holds : tie.Need-loop-holds Inv-loop μ-loop
-loop-holds c = (
-  [],
-  refl,
-  omega arith,
-  refl,
-  c .before .before .pre .2 ∙ sym (table-none formEntry (length (c .before .before .args .forms .now))),
-  turns-begin (formItem (c .before .before .args .principals) (c .before .before .args .atoms)) (c .before .before .args .formulas)
-      (c .before .before .args .text .now),
-  omega arith,
-)
+loop-holds c =
+    turns-begin formEntry (formItem (c .before .before .args .principals) (c .before .before .args .atoms)) (c .before .before .args .formulas)
+    (c .before .before .args .text .now)
+    (c .before .before .args .forms .now) (c .before .before .pre .2)
 
 slice-aggregate-value-of : tie.Need-slice-aggregate-value-of Inv-loop μ-loop
 slice-aggregate-value-of c = search needs
@@ -70,119 +87,56 @@ row-refused-requires : tie.Need-row-refused-requires Inv-loop μ-loop
 row-refused-requires c κs = search needs
 
 same-length : tie.Need-same-length Inv-loop μ-loop
-same-length c = c .before .before .before .before .before .before .before .loop .inv .3
+same-length c = c .before .before .before .before .before .before .before .loop .inv .long
 
 returns : tie.Need-returns Inv-loop μ-loop
-returns c = let b = c .before .before .before .before .before .before .before .loop .inv .0 in
-    let i = c .before .before .before .before .before .before .before .loop .i in
-    let s = c .before .before .before .before .before .before .before .loop .rest .now in
-    let t = c .before .before .before .before .before .before .before .before .before .before .args .text .now in
-    let w = many (formItem (c .before .before .before .before .before .before .before .before .before .before .args .principals)
-    (c .before .before .before .before .before .before .before .before .before .before .args .atoms))
-    (c .before .before .before .before .before .before .before .before .before .before .args .formulas) [] t in
-    let so = c .before .before .before .before .before .before .before .loop .inv .5 in
-    let k = c .before .enum-told .given .0 .0 in
-    let e = turn-stops (formItem (c .before .before .before .before .before .before .before .before .before .before .args .principals)
-    (c .before .before .before .before .before .before .before .before .before .before .args .atoms))
-    (c .before .before .before .before .before .before .before .before .before .before .args .formulas) i b s w so
-    (c .before .before .before .before .before .before .loop-test .taken) k (5 + i)
-    (form-bad (c .before .before .before .before .before .before .before .before .before .before .args .principals)
-    (c .before .before .before .before .before .before .before .before .before .before .args .atoms) b s
-    (c .before .before .before .before .value-of .result .now) (c .before .before .before .before .value-of .ensures) i
-    (c .before .before .before .before .before .before .before .loop .inv .1) k
-    (out-row _ k (sym (c .before .before .before .form-line .ensures) ∙ c .before .enum-told .given .1))) in
-    let r : c .row-refused .result ≡ refusalIs k (5 + i) = c .row-refused .ensures ∙ ap (λ l. refusalIs (rowRefused l) (5 + i))
-    (c .before .enum-told .given .1) in
-    (ap Section.Refused r ∙ section-refused (length t) w k (5 + i) e, λ xs rest f. never-both w k (5 + i) xs rest e f)
+returns c =
+    form-stops (c .before .before .before .before .before .before .before .before .before .before .args .principals)
+    (c .before .before .before .before .before .before .before .before .before .before .args .atoms)
+    (c .before .before .before .before .before .before .before .loop .inv) (c .before .before .before .before .before .before .loop-test .taken)
+    (line (c .before .before .before))
+    (c .before .enum-told .given .0 .0) (c .before .enum-told .given .1) (c .row-refused .result)
+    (c .row-refused .ensures ∙ ap (λ l. refusalIs (rowRefused l) (5 + c .before .before .before .before .before .before .before .loop .i))
+    (c .before .enum-told .given .1))
 
 cast-at : tie.Need-cast-at Inv-loop μ-loop
-cast-at c = omega (arith, c .before .before .before .before .before .before .before .before .before .before .pre .0)
+cast-at c = omega (arith, few c)
 
 mul-at : tie.Need-mul-at Inv-loop μ-loop
-mul-at c = omega (arith, c .before .before .before .before .before .before .before .before .before .before .pre .0)
+mul-at c = omega (arith, few c)
 
 add-second : tie.Need-add-second Inv-loop μ-loop
-add-second c = omega (arith, c .before .before .before .before .before .before .before .before .before .before .pre .0)
+add-second c = omega (arith, few c)
 
 add-third : tie.Need-add-third Inv-loop μ-loop
-add-third c = omega (arith, c .before .before .before .before .before .before .before .before .before .before .pre .0)
+add-third c = omega (arith, few c)
 
 mul-forms : tie.Need-mul-forms Inv-loop μ-loop
-mul-forms c =
-    omega (
-      arith,
-      c .before .before .before .before .before .before .before .before .before .before .pre .0,
-      c .before .before .before .before .before .before .before .before .before .before .pre .1,
-      c .before .before .before .before .before .before .before .loop .inv .3,
-    )
+mul-forms c = omega (arith, few c)
 
 slice-write-forms : tie.Need-slice-write-forms Inv-loop μ-loop
-slice-write-forms c =
-    omega (
-      arith,
-      c .before .before .before .before .before .before .before .before .before .before .pre .0,
-      c .before .before .before .before .before .before .before .before .before .before .pre .1,
-      c .before .before .before .before .before .before .before .loop .inv .3,
-    )
+slice-write-forms c = omega (arith, room c)
 
 mul-forms-2 : tie.Need-mul-forms-2 Inv-loop μ-loop
-mul-forms-2 c =
-    omega (
-      arith,
-      c .before .before .before .before .before .before .before .before .before .before .pre .0,
-      c .before .before .before .before .before .before .before .before .before .before .pre .1,
-      c .before .before .before .before .before .before .before .loop .inv .3,
-    )
+mul-forms-2 c = omega (arith, few c)
 
 slice-write-forms-2 : tie.Need-slice-write-forms-2 Inv-loop μ-loop
-slice-write-forms-2 c =
-    simp length-set (omega (
-      arith,
-      c .before .before .before .before .before .before .before .before .before .before .pre .0,
-      c .before .before .before .before .before .before .before .before .before .before .pre .1,
-      c .before .before .before .before .before .before .before .loop .inv .3,
-    ))
+slice-write-forms-2 c = simp length-set (omega (arith, room c))
 
 mul-forms-3 : tie.Need-mul-forms-3 Inv-loop μ-loop
-mul-forms-3 c =
-    omega (
-      arith,
-      c .before .before .before .before .before .before .before .before .before .before .pre .0,
-      c .before .before .before .before .before .before .before .before .before .before .pre .1,
-      c .before .before .before .before .before .before .before .loop .inv .3,
-    )
+mul-forms-3 c = omega (arith, few c)
 
 slice-write-forms-3 : tie.Need-slice-write-forms-3 Inv-loop μ-loop
-slice-write-forms-3 c =
-    simp length-set (omega (
-      arith,
-      c .before .before .before .before .before .before .before .before .before .before .pre .0,
-      c .before .before .before .before .before .before .before .before .before .before .pre .1,
-      c .before .before .before .before .before .before .before .loop .inv .3,
-    ))
-
--- The line is its key, its value and the LF, for no row has an empty value: the rest begins behind them.
-behind : (c : tie.After-known-told Inv-loop μ-loop) → Behind (c .before .before .before .before .before .before .before .loop .rest .now) (length (c .before .before .before .before .value-of .result .now) + 6)
-behind c =
-    row-behind "form=" formKinds
-    (rowRefusal formKinds (c .before .before .before .before .before .before .before .before .before .before .args .principals)
-    (c .before .before .before .before .before .before .before .before .before .before .args .atoms)
-    (c .before .before .before .before .before .before .before .loop .i))
-    (c .before .before .before .before .before .before .before .loop .rest .now)
-    (c .before .before .before .before .value-of .result .now) (c .before .before .before .before .value-of .ensures) no-form
-    (c .before .got .given .0 .0) (c .before .got .given .0 .1 .0)
-    (c .before .got .given .0 .1 .1 .0)
-    (val-row _ (c .before .got .given .0 .0) (c .before .got .given .0 .1 .0) (c .before .got .given .0 .1 .1 .0)
-    (sym (c .before .before .before .form-line .ensures) ∙ c .before .got .given .1))
+slice-write-forms-3 c = simp length-set (omega (arith, room c))
 
 add-past : tie.Need-add-past Inv-loop μ-loop
 add-past c = omega (arith, behind c .inside, c .before .before .before .before .before .before .before .before .before .before .good .0 .0)
 
 sub-next : tie.Need-sub-next Inv-loop μ-loop
-sub-next c = omega (arith, behind c .inside)
+sub-next c = behind c .inside
 
 part-next-start : tie.Need-part-next-start Inv-loop μ-loop
-part-next-start c = omega (arith, behind c .inside)
+part-next-start c = behind c .inside
 
 part-next-end : tie.Need-part-next-end Inv-loop μ-loop
 part-next-end c = search needs
@@ -194,70 +148,26 @@ loop-less : tie.Need-loop-less Inv-loop μ-loop
 loop-less c = omega arith
 
 loop-again : tie.Need-loop-again Inv-loop μ-loop
-loop-again c = let b = c .before .before .before .before .before .before .before .before .loop .inv .0 in
-    let i = c .before .before .before .before .before .before .before .before .loop .i in
-    let s = c .before .before .before .before .before .before .before .before .loop .rest .now in
-    let t = c .before .before .before .before .before .before .before .before .before .before .before .args .text .now in
-    let w = many (formItem (c .before .before .before .before .before .before .before .before .before .before .before .args .principals)
-    (c .before .before .before .before .before .before .before .before .before .before .before .args .atoms))
-    (c .before .before .before .before .before .before .before .before .before .before .before .args .formulas) [] t in
-    let so = c .before .before .before .before .before .before .before .before .loop .inv .5 in
-    let x = row (c .before .before .got .given .0 .0) (c .before .before .got .given .0 .1 .0)
-    (c .before .before .got .given .0 .1 .1 .0) in
-    let v = c .before .before .before .before .before .value-of .result .now in
-    let rest = take (length s - (length v + 6)) (drop (length v + 6) s) in
-    let next = behind (c .before) .rest in
-    let ok1 = form-ok (c .before .before .before .before .before .before .before .before .before .before .before .args .principals)
-    (c .before .before .before .before .before .before .before .before .before .before .before .args .atoms) b s v
-    (c .before .before .before .before .before .value-of .ensures) i
-    (c .before .before .before .before .before .before .before .before .loop .inv .1) rest (c .before .before .got .given .0 .0)
-    (c .before .before .got .given .0 .1 .0) (c .before .before .got .given .0 .1 .1 .0) next
-    (val-row _ (c .before .before .got .given .0 .0) (c .before .before .got .given .0 .1 .0) (c .before .before .got .given .0 .1 .1 .0)
-    (sym (c .before .before .before .before .form-line .ensures) ∙ c .before .before .got .given .1)) in (
-      b ++ (x ∷ []),
-      omega (arith, length-append b (x ∷ []), c .before .before .before .before .before .before .before .before .loop .inv .1),
-      omega arith,
-      simp length-set (c .before .before .before .before .before .before .before .before .loop .inv .3),
-      form-more
-          (length (c .before .before .before .before .before .before .before .before .before .before .before .args .forms .now))
-          (c .before .before .before .before .before .before .before .before .loop .forms) (3 * i) b (c .before .before .got .given .0 .0)
-          (c .before .before .got .given .0 .1 .0) (c .before .before .got .given .0 .1 .1 .0)
-          (c .before .before .before .before .before .before .before .before .loop .inv .4)
-          (omega (arith, c .before .before .before .before .before .before .before .before .loop .inv .1))
-          (omega (
-            arith,
-            c .before .before .before .before .before .before .before .before .before .before .before .pre .0,
-            c .before .before .before .before .before .before .before .before .before .before .before .pre .1,
-          )),
-      turn-more
-          (formItem (c .before .before .before .before .before .before .before .before .before .before .before .args .principals)
-          (c .before .before .before .before .before .before .before .before .before .before .before .args .atoms))
-          (c .before .before .before .before .before .before .before .before .before .before .before .args .formulas) i b s w so
-          (c .before .before .before .before .before .before .before .loop-test .taken) x rest ok1,
-      omega
-          (arith, rest-short s rest next, c .before .before .before .before .before .before .before .before .loop .inv .6),
-    )
+loop-again c =
+    form-turn (c .before .before .before .before .before .before .before .before .before .before .before .args .principals)
+    (c .before .before .before .before .before .before .before .before .before .before .before .args .atoms)
+    (c .before .before .before .before .before .before .before .before .loop .inv)
+    (c .before .before .before .before .before .before .before .loop-test .taken) (line (c .before .before .before .before))
+    (c .before .before .got .given .0 .0) (c .before .before .got .given .0 .1 .0) (c .before .before .got .given .0 .1 .1 .0)
+    (c .before .before .got .given .1)
+    (omega (arith, room (c .before), c .before .before .before .before .before .before .before .before .loop .inv .long))
 
 sub-taken : tie.Need-sub-taken Inv-loop μ-loop
-sub-taken c = c .before .loop .inv .6
+sub-taken c = c .before .loop .inv .inside
 
 same-length-2 : tie.Need-same-length-2 Inv-loop μ-loop
-same-length-2 c = c .before .loop .inv .3
+same-length-2 c = c .before .loop .inv .long
 
 returns-2 : tie.Need-returns-2 Inv-loop μ-loop
-returns-2 c = let b = c .before .loop .inv .0 in
-    let i = c .before .loop .i in
-    let s = c .before .loop .rest .now in
-    let t = c .before .before .before .before .args .text .now in
-    let w = many (formItem (c .before .before .before .before .args .principals) (c .before .before .before .before .args .atoms))
-    (c .before .before .before .before .args .formulas) [] t in
-    let so = c .before .loop .inv .5 in
-    let e = turns-end (formItem (c .before .before .before .before .args .principals) (c .before .before .before .before .args .atoms))
-    (c .before .before .before .before .args .formulas) i b s w so (c .loop-test .left) in (
-      section-read (length t) w b s e,
-      λ xs rest f. c .before .loop .inv .4 ∙ ap
-          (λ l. table formEntry (length (c .before .before .before .before .args .forms .now)) l) (same-things w b xs s rest e f),
-    )
+returns-2 c =
+    turns-end formEntry (formItem (c .before .before .before .before .args .principals) (c .before .before .before .before .args .atoms))
+    (c .before .before .before .before .args .formulas) (c .before .before .before .before .args .text .now)
+    (c .before .loop .inv) (c .loop-test .left)
 
 pub read-forms-spec : {M : Type 1} → statement M
 read-forms-spec =

@@ -1,21 +1,47 @@
 -- `reader::policy_lines::read_policy` meets its contract: the classes of the formulas are computed once, and the lines and the goal are asked of them.
-use Prim.Native.Nat.{_+_, _-_, _≤_}
-use mathlib.Core.Path.{_≡_, refl, ap, sym, _∙_}
+use Prim.Native.Nat.{_+_}
+use mathlib.Core.Path.{ap, sym, _∙_}
 use lib.ListN.{length}
 use Rattle.scope.specs.Bytes.{bytes}
 use Rattle.scope.specs.Number.{number}
-use Rattle.scope.specs.Tables.{table, unpack, formEntry, lineEntry}
+use Rattle.scope.specs.Tables.{unpack, formEntry, lineEntry}
 use Rattle.lines.specs.Parts.{valueOf}
 use Rattle.reader.specs.Sections.{policyPart}
 use Rattle.reader.specs.Answers.{refusalIs, numberRefusal, sectionRefused}
 use Rattle.reader.specs.Lines.{count-most}
-use Rattle.reader.specs.Got.{policy-refused, policy-read}
-use Rattle.reader.specs.Turns.{never-both, same-things}
-use Rattle.reader.specs.Joins.{clauses-stopped, lines-stopped, lines-place, goal-stopped, policy-joined}
-use Rattle.reader.specs.declared.Policy.the-variants as Policy
+use Rattle.reader.specs.Got.{Section-kept, policy-refused}
+use Rattle.reader.specs.Joins.{Clauses-kept, linesRead, clauses-stopped, lines-stopped, lines-place, goal-stopped, goal-inside, policy-joined}
 use borrow.Author.Needs.{needs}
 use Rattle.reader.proofs.policy_lines.read_policy.Statement.{statement}
 use Rattle.reader.proofs.policy_lines.read_policy.Tie as tie
+
+-- The count, the text behind it and the classes; and the lines that were read.
+abbrev clauses : (c : tie.After-classes-of) → Clauses-kept
+    (c .before .before .before .before .before .before .before .before .before .before .args .forms .now)
+    (c .before .before .before .before .before .before .before .before .before .before .args .formulas)
+    (c .before .before .before .before .before .before .before .before .before .before .args .text .now)
+clauses c =
+    record {
+      small = c .before .before .before .before .before .before .before .before .before .before .pre .0;
+      count = c .before .before .before .count .given .0 .0;
+      counted = sym (c .before .before .before .before .before .count-line .ensures) ∙ c .before .before .before .count .given .1;
+      rest = c .before .rest-of .result .now;
+      behind = c .before .rest-of .ensures;
+      classes = c .classes-of .result;
+      tabled = c .classes-of .ensures;
+    }
+
+abbrev lines : (c : tie.After-got) → Section-kept lineEntry
+    (length (c .before .before .before .before .before .before .before .before .rest-of .result .now))
+    (linesRead (clauses (c .before .before .before .before .before .before .before)))
+lines c =
+    record {
+      at = c .got .given .0 .0;
+      is = sym (c .before .before .before .before .read-clauses .ensures .0) ∙ c .got .given .1;
+      numbers = c .before .before .before .before .read-clauses .last .1 .1 .1 .1 .0;
+      len = length (c .before .before .before .before .before .before .before .before .before .before .before .before .before .before .before .before .before .args .policy .now);
+      stored = c .before .before .before .before .read-clauses .ensures .1;
+    }
 
 slice-aggregate-count-line : tie.Need-slice-aggregate-count-line
 slice-aggregate-count-line c = search needs
@@ -36,16 +62,16 @@ number-refused-requires : tie.Need-number-refused-requires
 number-refused-requires c κs = search needs
 
 returns : tie.Need-returns
-returns c = let t = c .before .before .before .before .before .before .before .before .args .text .now in
+returns c =
     let n = c .before .before .before .before .before .before .before .before .args .formulas in
-    let fs = c .before .before .before .before .before .before .before .before .args .forms .now in
-    let w = policyPart (unpack formEntry n fs) t in
+    let t = c .before .before .before .before .before .before .before .before .args .text .now in
     let k = c .before .enum-told .given .0 .0 in
-    let e = clauses-stopped fs n (c .before .before .before .before .before .before .before .before .pre .0) t k
-    (sym (c .before .before .before .count-line .ensures) ∙ c .before .enum-told .given .1) in
-    let r : c .number-refused .result ≡ refusalIs k (5 + n) = c .number-refused .ensures ∙ ap (λ l. refusalIs (numberRefusal l) (5 + n))
-    (c .before .enum-told .given .1) in
-    (ap Policy.Refused r ∙ policy-refused (length t) w (refusalIs k (5 + n)) e, λ p rest g. never-both w k (5 + n) p rest e g)
+    policy-refused (length t)
+    (policyPart (unpack formEntry n (c .before .before .before .before .before .before .before .before .args .forms .now)) t)
+    (refusalIs k (5 + n))
+    (clauses-stopped (c .before .before .before .before .before .before .before .before .args .forms .now) n t k
+    (sym (c .before .before .before .count-line .ensures) ∙ c .before .enum-told .given .1))
+    (c .number-refused .result) (c .number-refused .ensures ∙ ap (λ l. refusalIs (numberRefusal l) (5 + n)) (c .before .enum-told .given .1))
 
 rest-of-requires : tie.Need-rest-of-requires
 rest-of-requires c κs = search needs
@@ -82,61 +108,20 @@ same-length c = search needs
 returns-2 : tie.Need-returns-2
 returns-2 c =
     let t = c .before .before .before .before .before .before .before .before .before .before .before .before .before .before .before .before .before .before .args .text .now in
-    let n = c .before .before .before .before .before .before .before .before .before .before .before .before .before .before .before .before .before .before .args .formulas in
-    let fs = c .before .before .before .before .before .before .before .before .before .before .before .before .before .before .before .before .before .before .args .forms .now in
-    let m = c .before .before .before .before .before .before .before .before .before .before .before .count .given .0 .0 in
-    let s = c .before .before .before .before .before .before .before .before .before .rest-of .result .now in
-    let cs = c .before .before .before .before .before .before .before .before .classes-of .result in
-    let small = c .before .before .before .before .before .before .before .before .before .before .before .before .before .before .before .before .before .before .pre .0 in
-    let b = c .before .before .before .before .before .before .before .before .before .rest-of .ensures in
-    let e = sym
-    (c .before .before .before .before .before .before .before .before .before .before .before .before .before .count-line .ensures) ∙
-    c .before .before .before .before .before .before .before .before .before .before .before .count .given .1 in
-    let d = c .before .before .before .before .before .before .before .before .classes-of .ensures in
-    let w = policyPart (unpack formEntry n fs) t in
     let x = c .before .enum-told2 .given .0 .0 in
-    let q = lines-stopped fs n small t m s b e cs d x
-    (sym (c .before .before .before .before .before .read-clauses .ensures .0) ∙ c .before .enum-told2 .given .1) in
-    let r : c .section-refused .result ≡ x = c .section-refused .ensures ∙ ap sectionRefused (c .before .enum-told2 .given .1) in
-    (ap Policy.Refused r ∙ policy-refused (length t) w x q, λ p rest g. never-both w (x .number) (x .place) p rest q g)
+    policy-refused (length t)
+    (policyPart (unpack formEntry
+    (c .before .before .before .before .before .before .before .before .before .before .before .before .before .before .before .before .before .before .args .formulas)
+    (c .before .before .before .before .before .before .before .before .before .before .before .before .before .before .before .before .before .before .args .forms .now)) t) x
+    (lines-stopped (clauses (c .before .before .before .before .before .before .before .before)) x
+    (sym (c .before .before .before .before .before .read-clauses .ensures .0) ∙ c .before .enum-told2 .given .1))
+    (c .section-refused .result) (c .section-refused .ensures ∙ ap sectionRefused (c .before .enum-told2 .given .1))
 
 sub-third : tie.Need-sub-third
-sub-third c =
-    let t = c .before .before .before .before .before .before .before .before .before .before .before .before .before .before .before .before .before .before .args .text .now in
-    let n = c .before .before .before .before .before .before .before .before .before .before .before .before .before .before .before .before .before .before .args .formulas in
-    let fs = c .before .before .before .before .before .before .before .before .before .before .before .before .before .before .before .before .before .before .args .forms .now in
-    let m = c .before .before .before .before .before .before .before .before .before .before .before .count .given .0 .0 in
-    let s = c .before .before .before .before .before .before .before .before .before .rest-of .result .now in
-    let cs = c .before .before .before .before .before .before .before .before .classes-of .result in
-    let small = c .before .before .before .before .before .before .before .before .before .before .before .before .before .before .before .before .before .before .pre .0 in
-    let b = c .before .before .before .before .before .before .before .before .before .rest-of .ensures in
-    let e = sym
-    (c .before .before .before .before .before .before .before .before .before .before .before .before .before .count-line .ensures) ∙
-    c .before .before .before .before .before .before .before .before .before .before .before .count .given .1 in
-    let d = c .before .before .before .before .before .before .before .before .classes-of .ensures in
-    let w = policyPart (unpack formEntry n fs) t in
-    lines-place fs n small t m s b e cs d (c .before .got .given .0 .0)
-    (sym (c .before .before .before .before .before .read-clauses .ensures .0) ∙ c .before .got .given .1)
+sub-third c = lines-place (clauses (c .before .before .before .before .before .before .before .before)) (lines (c .before))
 
 part-third-start : tie.Need-part-third-start
-part-third-start c =
-    let t = c .before .before .before .before .before .before .before .before .before .before .before .before .before .before .before .before .before .before .args .text .now in
-    let n = c .before .before .before .before .before .before .before .before .before .before .before .before .before .before .before .before .before .before .args .formulas in
-    let fs = c .before .before .before .before .before .before .before .before .before .before .before .before .before .before .before .before .before .before .args .forms .now in
-    let m = c .before .before .before .before .before .before .before .before .before .before .before .count .given .0 .0 in
-    let s = c .before .before .before .before .before .before .before .before .before .rest-of .result .now in
-    let cs = c .before .before .before .before .before .before .before .before .classes-of .result in
-    let small = c .before .before .before .before .before .before .before .before .before .before .before .before .before .before .before .before .before .before .pre .0 in
-    let b = c .before .before .before .before .before .before .before .before .before .rest-of .ensures in
-    let e = sym
-    (c .before .before .before .before .before .before .before .before .before .before .before .before .before .count-line .ensures) ∙
-    c .before .before .before .before .before .before .before .before .before .before .before .count .given .1 in
-    let d = c .before .before .before .before .before .before .before .before .classes-of .ensures in
-    let w = policyPart (unpack formEntry n fs) t in
-    let at = c .before .got .given .0 .0 in
-    let h : at ≤ length s = lines-place fs n small t m s b e cs d at
-    (sym (c .before .before .before .before .before .read-clauses .ensures .0) ∙ c .before .got .given .1) in
-    search needs
+part-third-start c = lines-place (clauses (c .before .before .before .before .before .before .before .before)) (lines (c .before))
 
 part-third-end : tie.Need-part-third-end
 part-third-end c = search needs
@@ -172,86 +157,37 @@ returns-3 : tie.Need-returns-3
 returns-3 c =
     let t = c .before .before .before .before .before .before .before .before .before .before .before .before .before .before .before .before .before .before .before .before .before .before .before .before .args .text .now in
     let n = c .before .before .before .before .before .before .before .before .before .before .before .before .before .before .before .before .before .before .before .before .before .before .before .before .args .formulas in
-    let fs = c .before .before .before .before .before .before .before .before .before .before .before .before .before .before .before .before .before .before .before .before .before .before .before .before .args .forms .now in
-    let m = c .before .before .before .before .before .before .before .before .before .before .before .before .before .before .before .before .before .count .given .0 .0 in
-    let s = c .before .before .before .before .before .before .before .before .before .before .before .before .before .before .before .rest-of .result .now in
-    let cs = c .before .before .before .before .before .before .before .before .before .before .before .before .before .before .classes-of .result in
-    let small = c .before .before .before .before .before .before .before .before .before .before .before .before .before .before .before .before .before .before .before .before .before .before .before .before .pre .0 in
-    let b = c .before .before .before .before .before .before .before .before .before .before .before .before .before .before .before .rest-of .ensures in
-    let e = sym
-    (c .before .before .before .before .before .before .before .before .before .before .before .before .before .before .before .before .before .before .before .count-line .ensures) ∙
-    c .before .before .before .before .before .before .before .before .before .before .before .before .before .before .before .before .before .count .given .1 in
-    let d = c .before .before .before .before .before .before .before .before .before .before .before .before .before .before .classes-of .ensures in
-    let w = policyPart (unpack formEntry n fs) t in
-    let at = c .before .before .before .before .before .before .before .got .given .0 .0 in
-    let g = sym (c .before .before .before .before .before .before .before .before .before .before .before .read-clauses .ensures .0) ∙
-    c .before .before .before .before .before .before .before .got .given .1 in
+    let place = 6 + n + c .before .before .before .before .before .before .before .before .before .before .before .before .before .before .before .before .before .count .given .0 .0 in
     let k = c .before .enum-told3 .given .0 .0 in
-    let q = goal-stopped fs n small t m s b e cs d at g k (sym (c .before .before .before .goal-line .ensures) ∙ c .before .enum-told3 .given .1) in
-    let r : c .number-refused2 .result ≡ refusalIs k (6 + n + m) = c .number-refused2 .ensures ∙ ap
-    (λ l. refusalIs (numberRefusal l) (6 + n + m)) (c .before .enum-told3 .given .1) in
-    (ap Policy.Refused r ∙ policy-refused (length t) w (refusalIs k (6 + n + m)) q, λ p rest h. never-both w k (6 + n + m) p rest q h)
+    policy-refused (length t)
+    (policyPart (unpack formEntry n
+    (c .before .before .before .before .before .before .before .before .before .before .before .before .before .before .before .before .before .before .before .before .before .before .before .before .args .forms .now)) t)
+    (refusalIs k place)
+    (goal-stopped (clauses (c .before .before .before .before .before .before .before .before .before .before .before .before .before .before))
+    (lines (c .before .before .before .before .before .before .before)) k
+    (sym (c .before .before .before .goal-line .ensures) ∙ c .before .enum-told3 .given .1))
+    (c .number-refused2 .result) (c .number-refused2 .ensures ∙ ap (λ l. refusalIs (numberRefusal l) place) (c .before .enum-told3 .given .1))
 
 rest-of-requires-2 : tie.Need-rest-of-requires-2
 rest-of-requires-2 c κs = search needs
 
 sub-taken : tie.Need-sub-taken
 sub-taken c =
-    let t = c .before .before .before .before .before .before .before .before .before .before .before .before .before .before .before .before .before .before .before .before .before .before .before .before .before .args .text .now in
-    let n = c .before .before .before .before .before .before .before .before .before .before .before .before .before .before .before .before .before .before .before .before .before .before .before .before .before .args .formulas in
-    let fs = c .before .before .before .before .before .before .before .before .before .before .before .before .before .before .before .before .before .before .before .before .before .before .before .before .before .args .forms .now in
-    let m = c .before .before .before .before .before .before .before .before .before .before .before .before .before .before .before .before .before .before .count .given .0 .0 in
-    let s = c .before .before .before .before .before .before .before .before .before .before .before .before .before .before .before .before .rest-of .result .now in
-    let cs = c .before .before .before .before .before .before .before .before .before .before .before .before .before .before .before .classes-of .result in
-    let small = c .before .before .before .before .before .before .before .before .before .before .before .before .before .before .before .before .before .before .before .before .before .before .before .before .before .pre .0 in
-    let b = c .before .before .before .before .before .before .before .before .before .before .before .before .before .before .before .before .rest-of .ensures in
-    let e = sym
-    (c .before .before .before .before .before .before .before .before .before .before .before .before .before .before .before .before .before .before .before .before .count-line .ensures) ∙
-    c .before .before .before .before .before .before .before .before .before .before .before .before .before .before .before .before .before .before .count .given .1 in
-    let d = c .before .before .before .before .before .before .before .before .before .before .before .before .before .before .before .classes-of .ensures in
-    let w = policyPart (unpack formEntry n fs) t in
-    let at = c .before .before .before .before .before .before .before .before .got .given .0 .0 in
-    let g = sym
-    (c .before .before .before .before .before .before .before .before .before .before .before .before .read-clauses .ensures .0) ∙
-    c .before .before .before .before .before .before .before .before .got .given .1 in
-    let goal = c .before .before .last .given .0 .0 in
-    let j = policy-joined fs n small t m s b e cs d at g goal (c .rest-of2 .result .now) (c .rest-of2 .ensures)
-    (sym (c .before .before .before .before .goal-line .ensures) ∙ c .before .before .last .given .1) in
-    j .short
+    goal-inside (clauses (c .before .before .before .before .before .before .before .before .before .before .before .before .before .before .before))
+    (lines (c .before .before .before .before .before .before .before .before)) (c .before .before .last .given .0 .0) (c .rest-of2 .result .now)
+    (c .rest-of2 .ensures)
+    (sym (c .before .before .before .before .goal-line .ensures) ∙ c .before .before .last .given .1)
 
 same-length-3 : tie.Need-same-length-3
 same-length-3 c = search needs
 
 returns-4 : tie.Need-returns-4
 returns-4 c =
-    let t = c .before .before .before .before .before .before .before .before .before .before .before .before .before .before .before .before .before .before .before .before .before .before .before .before .before .args .text .now in
-    let n = c .before .before .before .before .before .before .before .before .before .before .before .before .before .before .before .before .before .before .before .before .before .before .before .before .before .args .formulas in
-    let fs = c .before .before .before .before .before .before .before .before .before .before .before .before .before .before .before .before .before .before .before .before .before .before .before .before .before .args .forms .now in
-    let m = c .before .before .before .before .before .before .before .before .before .before .before .before .before .before .before .before .before .before .count .given .0 .0 in
-    let s = c .before .before .before .before .before .before .before .before .before .before .before .before .before .before .before .before .rest-of .result .now in
-    let cs = c .before .before .before .before .before .before .before .before .before .before .before .before .before .before .before .classes-of .result in
-    let small = c .before .before .before .before .before .before .before .before .before .before .before .before .before .before .before .before .before .before .before .before .before .before .before .before .before .pre .0 in
-    let b = c .before .before .before .before .before .before .before .before .before .before .before .before .before .before .before .before .rest-of .ensures in
-    let e = sym
-    (c .before .before .before .before .before .before .before .before .before .before .before .before .before .before .before .before .before .before .before .before .count-line .ensures) ∙
-    c .before .before .before .before .before .before .before .before .before .before .before .before .before .before .before .before .before .before .count .given .1 in
-    let d = c .before .before .before .before .before .before .before .before .before .before .before .before .before .before .before .classes-of .ensures in
-    let w = policyPart (unpack formEntry n fs) t in
-    let at = c .before .before .before .before .before .before .before .before .got .given .0 .0 in
-    let g = sym
-    (c .before .before .before .before .before .before .before .before .before .before .before .before .read-clauses .ensures .0) ∙
-    c .before .before .before .before .before .before .before .before .got .given .1 in
-    let goal = c .before .before .last .given .0 .0 in
-    let rest = c .rest-of2 .result .now in
-    let j = policy-joined fs n small t m s b e cs d at g goal rest (c .rest-of2 .ensures)
-    (sym (c .before .before .before .before .goal-line .ensures) ∙ c .before .before .last .given .1) in
-    let l = length
-    (c .before .before .before .before .before .before .before .before .before .before .before .before .before .before .before .before .before .before .before .before .before .before .before .before .before .args .policy .now) in (
-      policy-read (length t) w m goal (length t - length rest) (j .lines) rest (j .is) (j .count) refl,
-      λ p over h. c .before .before .before .before .before .before .before .before .before .before .before .before .read-clauses .ensures .1
-          (j .lines) (j .over) (j .read) ∙ ap (λ y. table lineEntry l (y .lines))
-          (same-things w record { lines = j .lines; goal = goal } p rest over (j .is) h),
-    )
+    policy-joined (clauses
+    (c .before .before .before .before .before .before .before .before .before .before .before .before .before .before .before))
+    (lines (c .before .before .before .before .before .before .before .before)) (c .before .before .last .given .0 .0) (c .rest-of2 .result .now)
+    (c .rest-of2 .ensures)
+    (sym (c .before .before .before .before .goal-line .ensures) ∙ c .before .before .last .given .1)
 
 pub read-policy-spec : {M : Type 1} → statement M
 read-policy-spec =
