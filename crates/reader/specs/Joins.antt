@@ -21,7 +21,8 @@ use Rattle.classes.specs.Rows.{unpack-length}
 use Rattle.classes.specs.Laws.{goal-at, policy-at}
 use Rattle.lines.specs.Parts.{valueOf, restOf}
 use Rattle.counts.specs.declared.Refusal.{Refusal}
-use Rattle.reader.specs.Sections.{Counted, Formulas, PolicyRead, headPart, formulasPart, policyPart, stepsPart, classRefusal, classedItem}
+use Rattle.refusals.specs.Rows.{classRefusal}
+use Rattle.reader.specs.Sections.{Counted, Formulas, PolicyRead, headPart, formulasPart, policyPart, stepsPart, classedItem}
 use Rattle.reader.specs.Answers.{numberLineOf, sectionOf, headOf, formulasOf, policyOf, stepsOf}
 use Rattle.reader.specs.Lines.{number-ok, number-bad}
 use Rattle.reader.specs.Many.{Ends, line-ends, many-ends, many-length, tail-length}

@@ -29,8 +29,8 @@ use Rattle.lines.specs.declared.Row.{Row as RowAnswer}
 use Rattle.lines.specs.declared.Row.the-variants as RowValue
 use Rattle.steps.specs.declared.Step.{Step}
 use Rattle.steps.specs.Steps.{pair, stepFrom, pairOf, pair-back}
-use Rattle.refusals.specs.Rows.{row, step-small}
-use Rattle.reader.specs.Sections.{belowRefusal, classRefusal}
+use Rattle.refusals.specs.Rows.{row, step-small, classRefusal}
+use Rattle.reader.specs.Sections.{belowRefusal}
 use Rattle.reader.specs.Answers.{numberLineOf, rowLineOf, stepLineOf}
 use Rattle.reader.specs.declared.NumberLine.the-variants as NumberLine
 use Rattle.reader.specs.declared.RowLine.the-variants as RowLine

@@ -1,9 +1,9 @@
 -- The sections of the file, each a reader of document 01's lines, and the whole file from them.
 use Prim.Native.Nat.{ℕ}
 use mathlib.Core.List.{List, []}
-use mathlib.Core.Bool.{Bool}
 use lib.Dec.{ltb}
-use lib.ListN.{length, getD}
+use lib.ListN.{length}
+use Rattle.refusals.specs.Rows.{classRefusal}
 use Rattle.scope.specs.Request.{Row}
 use Rattle.scope.specs.Line.{Reader, line, many, done, _>>=_}
 use Rattle.scope.specs.Limits.{versionAt, principalsAt, atomsAt, formulasAt, clausesAt, clauseAt, goalAt, stepsAt}
@@ -63,9 +63,6 @@ stepsPart formulas clauses = do
 -- The refusals of a formula number by a table of classes.
 unfoldable pub belowRefusal : ℕ → ℕ → ℕ
 belowRefusal n f = demand (ltb f n) 3 0
-
-unfoldable pub classRefusal : (ℕ → Bool) → List ℕ → ℕ → ℕ → ℕ
-classRefusal test classes n f = demand (ltb f n) 3 (demand (test (getD classes f 0)) 5 0)
 
 abbrev pub classedItem : List ℕ → ℕ → List ℕ → Reader ℕ
 classedItem classes formulas before = line clauseLine (classRefusal policyIn classes formulas) (clauseAt formulas (length before))

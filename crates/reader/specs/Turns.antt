@@ -23,8 +23,8 @@ use Rattle.counts.specs.declared.Refusal.{Refusal}
 use Rattle.steps.specs.declared.Step.{Step}
 use Rattle.steps.specs.declared.Pair.{Pair}
 use Rattle.steps.specs.Steps.{pairOf}
-use Rattle.refusals.specs.Rows.{row}
-use Rattle.reader.specs.Sections.{Counted, headPart, classRefusal, classedItem}
+use Rattle.refusals.specs.Rows.{row, classRefusal}
+use Rattle.reader.specs.Sections.{Counted, headPart, classedItem}
 use Rattle.reader.specs.Answers.{refusalIs, numberLineOf, rowLineOf, stepLineOf, sectionOf, headOf}
 use Rattle.reader.specs.Lines.{no-form, no-step, out-row, val-row, out-step, Step-row, step-row, row-ok, row-bad, row-behind, value-ok, value-bad, value-behind}
 use Rattle.reader.specs.Many.{onto, many-more, many-stop, many-end, many-start, tail-length, rest-tail}

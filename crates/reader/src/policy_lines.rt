@@ -14,7 +14,8 @@ ghost use Rattle.scope.specs.Tables.{table, unpack, formEntry, lineEntry};
 ghost use Rattle.classes.specs.Class.{goalIn, policyIn};
 ghost use Rattle.lines.specs.Parts.{valueOf};
 ghost use Rattle.reader.specs.Answers.{numberLineOf, sectionOf, policyOf};
-ghost use Rattle.reader.specs.Sections.{belowRefusal, classRefusal, classedItem, PolicyRead, policyPart};
+ghost use Rattle.refusals.specs.Rows.{classRefusal};
+ghost use Rattle.reader.specs.Sections.{belowRefusal, classedItem, PolicyRead, policyPart};
 
 // The value of a line with a formula number.
 fn formula_line(value: &[u8], formulas: u16) -> NumberLine

@@ -3,7 +3,9 @@ use Prim.Native.Nat.{ℕ, zero, suc, _≤_, _<_}
 use native.Mathlib.Omega.{arith}
 use mathlib.Core.Path.{_≡_, refl, ap, sym, _∙_}
 use mathlib.Core.Bool.{Bool, true, false}
+use mathlib.Core.List.{List}
 use lib.Dec.{ltb, leb, eqb}
+use lib.ListN.{getD}
 use borrow.Author.Tests.{le-ltb, ltb-true, ltb-false, leb-true, eqb-true, eqb-false}
 use Rattle.scope.specs.Form.{both}
 use Rattle.scope.specs.Tests.{both-true, both-yes}
@@ -13,6 +15,11 @@ use Rattle.scope.specs.Refusals.{demand, inRange, isEarlier, pass, restZero, ro
 
 abbrev pub row : ℕ → ℕ → ℕ → Row
 row k l r = record { kind = k; left = l; right = r }
+
+-- A formula that a policy line or the goal names: it is below the count, and of the class that this test of its class byte asks.
+unfoldable pub classRefusal : (ℕ → Bool) → List ℕ → ℕ → ℕ → ℕ
+unfolding demand
+classRefusal test classes formulas f = demand (ltb f formulas) 3 (demand (test (getD classes f 0)) 5 0)
 
 -- Three demands in a row: 3, 3 and 4.
 abbrev pub demands : Bool → Bool → Bool → ℕ

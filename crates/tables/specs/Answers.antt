@@ -1,9 +1,8 @@
 -- What is asked of each part of lent tables, in the order of the text.
 use Prim.Native.Nat.{ℕ, suc}
 use mathlib.Core.List.{List, [], _∷_}
-use mathlib.Core.Bool.{Bool}
-use lib.Dec.{ltb}
-use lib.ListN.{length, getD}
+use lib.ListN.{length}
+use Rattle.refusals.specs.Rows.{classRefusal}
 use Rattle.scope.specs.Request.{Row}
 use Rattle.scope.specs.Answer.{Answer, answer}
 use Rattle.scope.specs.Limits.{principalsAt, atomsAt, formulasAt, formAt, clauseAt, goalAt, stepsAt, stepAt}
@@ -29,10 +28,6 @@ formAnswer principals atoms i r = answer (rowRefusal formKinds principals atoms 
 
 unfoldable pub formAnswers : ℕ → ℕ → List Row → List Answer
 formAnswers principals atoms rows = eachOf (λ before r. formAnswer principals atoms (length before) r) [] rows
-
--- A formula that a policy line or the goal names: it is below the count, and of the class that this test of its class byte asks.
-unfoldable pub classRefusal : (ℕ → Bool) → List ℕ → ℕ → ℕ → ℕ
-classRefusal test classes formulas f = demand (ltb f formulas) 3 (demand (test (getD classes f 0)) 5 0)
 
 unfoldable pub lineAnswers : List ℕ → ℕ → List ℕ → List Answer
 lineAnswers classes formulas fs =

@@ -20,7 +20,8 @@ use Rattle.scope.specs.Tables.{Lent, Entry, unpack, formEntry, lineEntry, stepE
 use Rattle.classes.specs.Class.{policyIn}
 use Rattle.classes.specs.Rows.{unpack-at, unpack-length, number-at, formRow, form-row}
 use Rattle.tables.specs.MetLaws.{answerAt}
-use Rattle.tables.specs.Answers.{formAnswer, formAnswers, classRefusal, lineAnswers, stepAnswers}
+use Rattle.refusals.specs.Rows.{classRefusal}
+use Rattle.tables.specs.Answers.{formAnswer, formAnswers, lineAnswers, stepAnswers}
 
 each-length : {A : Type 0} (about : List A → A → Answer) (before xs : List A) → length (eachOf about before xs) ≡ length xs
 unfolding eachOf

@@ -22,7 +22,8 @@ use Rattle.tables.specs.Met.{answerOf, checkedOf, met}
 use Rattle.tables.specs.MetLaws.{first-answer, met-stop, met-go, met-front, met-back, met-one, fine-none}
 use Rattle.tables.specs.declared.Checked.{Checked}
 use Rattle.tables.specs.declared.Checked.the-variants.{Fine, Refused}
-use Rattle.tables.specs.Answers.{roomAnswers, countAnswers, formAnswers, classRefusal, lineAnswers, goalAnswers, stepAnswers}
+use Rattle.refusals.specs.Rows.{classRefusal}
+use Rattle.tables.specs.Answers.{roomAnswers, countAnswers, formAnswers, lineAnswers, goalAnswers, stepAnswers}
 
 -- What is asked first: the room.
 abbrev pub roomPart : Lent → List Answer

@@ -3,7 +3,7 @@ ghost use mathlib.Core.Path.{_≡_};
 ghost use lib.ListN.{getD};
 ghost use Rattle.scope.specs.Refusals.{demand, countRefusal};
 ghost use Rattle.classes.specs.Class.{goalIn, policyIn};
-ghost use Rattle.tables.specs.Answers.{classRefusal};
+ghost use Rattle.refusals.specs.Rows.{classRefusal};
 
 pub(crate) fn demand_of(test: bool, number: u16, next: u16) -> u16
     ensures { λ r. ⌜ r ≡ demand test number next ⌝ }

@@ -10,7 +10,8 @@ use Rattle.scope.specs.Tables.{unpack, stepEntry}
 use Rattle.classes.specs.Class.{goalIn}
 use Rattle.tables.specs.Met.{checkedOf}
 use Rattle.tables.specs.MetLaws.{one-stop, one-go}
-use Rattle.tables.specs.Answers.{classRefusal, goalAnswers, stepAnswers}
+use Rattle.refusals.specs.Rows.{classRefusal}
+use Rattle.tables.specs.Answers.{goalAnswers, stepAnswers}
 use Rattle.tables.proofs.check_proof.Statement.{statement}
 use Rattle.tables.proofs.check_proof.Tie as tie
 
