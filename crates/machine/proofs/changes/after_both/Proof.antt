@@ -19,7 +19,7 @@ fork-to-requires : tie.Need-fork-to-requires
 fork-to-requires c κs = search needs
 
 returns : tie.Need-returns
-returns c = cc
+returns c = rw (c .before .with-phase2 .ensures, c .before .before .with-phase .ensures, c .before .before .before .goal-here2 .ensures, c .before .before .before .before .goal-here .ensures) at (c .fork-to .ensures)
 
 pub after-both-spec : {M : Type 1} → statement M
 after-both-spec =

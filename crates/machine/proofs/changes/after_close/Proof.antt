@@ -10,7 +10,7 @@ only-one-requires : tie.Need-only-one-requires
 only-one-requires c κs = search needs
 
 returns : tie.Need-returns
-returns c = cc
+returns c = rw (c .before .less-by .ensures) at (c .only-one .ensures)
 
 pub after-close-spec : {M : Type 1} → statement M
 after-close-spec = tie.close (tie.spec less-by-requires only-one-requires returns)

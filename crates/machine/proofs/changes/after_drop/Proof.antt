@@ -10,7 +10,7 @@ only-one-requires : tie.Need-only-one-requires
 only-one-requires c κs = search needs
 
 returns : tie.Need-returns
-returns c = cc
+returns c = rw (c .before .popped-one .ensures) at (c .only-one .ensures)
 
 pub after-drop-spec : {M : Type 1} → statement M
 after-drop-spec = tie.close (tie.spec popped-one-requires only-one-requires returns)

@@ -13,7 +13,7 @@ only-one-requires : tie.Need-only-one-requires
 only-one-requires c κs = search needs
 
 returns : tie.Need-returns
-returns c = cc
+returns c = rw (c .before .with-phase .ensures, c .before .before .goal-here .ensures) at (c .only-one .ensures)
 
 pub after-go-spec : {M : Type 1} → statement M
 after-go-spec =

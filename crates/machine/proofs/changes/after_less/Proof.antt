@@ -10,7 +10,7 @@ only-one-requires : tie.Need-only-one-requires
 only-one-requires c κs = search needs
 
 returns : tie.Need-returns
-returns c = cc
+returns c = rw (c .before .new-world .ensures) at (c .only-one .ensures)
 
 pub after-less-spec : {M : Type 1} → statement M
 after-less-spec = tie.close (tie.spec new-world-requires only-one-requires returns)

@@ -19,7 +19,7 @@ fork-to-requires : tie.Need-fork-to-requires
 fork-to-requires c κs = search needs
 
 returns : tie.Need-returns
-returns c = cc
+returns c = rw (c .before .with-phase2 .ensures, c .before .before .with-phase .ensures, c .before .before .before .goal-at .ensures, c .before .before .before .before .focus-on .ensures) at (c .fork-to .ensures)
 
 pub after-meet-spec : {M : Type 1} → statement M
 after-meet-spec =

@@ -16,7 +16,7 @@ only-one-requires : tie.Need-only-one-requires
 only-one-requires c κs = search needs
 
 returns : tie.Need-returns
-returns c = cc
+returns c = rw (c .before .with-clauses .ensures, c .before .before .popped-one .ensures) at (c .only-one .ensures)
 
 pub after-push-spec : {M : Type 1} → statement M
 after-push-spec =

@@ -21,7 +21,7 @@ only-one-requires c κs = search needs
 
 returns : tie.Need-returns
 unfolding oneMore
-returns c = cc
+returns c = rw (c .before .with-phase .ensures, c .before .before .chunk-count .ensures, c .before .before .before .goal-in .ensures) at (c .only-one .ensures)
 
 pub after-split-spec : {M : Type 1} → statement M
 after-split-spec =

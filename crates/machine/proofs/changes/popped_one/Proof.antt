@@ -18,7 +18,7 @@ with-phase-requires c κs = search needs
 
 returns : tie.Need-returns
 unfolding popped
-returns c = cc
+returns c = rw (c .before .behind-chunks .ensures, c .before .before .top-place .ensures, c .before .before .before .goal-in .ensures) at (c .with-phase .ensures)
 
 pub popped-one-spec : {M : Type 1} → statement M
 popped-one-spec =
