@@ -81,55 +81,56 @@ abbrev pub formsRead : {s : List ℕ} → Head-kept s → Read (List Row)
 formsRead k = many (formItem (k .principals) (k .atoms)) (k .count) [] (behindHead k)
 
 module _ {s : List ℕ} (k : Head-kept s) where
-  hg : Head-got (length s) (headPart s) (k .principals) (k .atoms) (k .count) (k .at)
-  hg = head-got (length s) (headPart s) (k .principals) (k .atoms) (k .count) (k .at) (k .is)
+  -- What the code has of them is what the definition reads.
+  headRead : Head-got (length s) (headPart s) (k .principals) (k .atoms) (k .count) (k .at)
+  headRead = head-got (length s) (headPart s) (k .principals) (k .atoms) (k .count) (k .at) (k .is)
 
   abbrev counts : Counted
   counts = record { principals = k .principals; atoms = k .atoms; formulas = k .count }
 
-  second : behindHead k ≡ hg .rest
-  second = part-is headPart head-ends s counts (hg .rest) (k .at) (hg .is) (hg .place)
+  second : behindHead k ≡ headRead .rest
+  second = part-is headPart head-ends s counts (headRead .rest) (k .at) (headRead .is) (headRead .place)
 
-  same-forms : formsRead k ≡ many (formItem (k .principals) (k .atoms)) (k .count) [] (hg .rest)
+  same-forms : formsRead k ≡ many (formItem (k .principals) (k .atoms)) (k .count) [] (headRead .rest)
   same-forms = ap (many (formItem (k .principals) (k .atoms)) (k .count) []) second
 
   pub head-place : k .at ≤ length s
-  head-place = omega (arith, hg .place)
+  head-place = omega (arith, headRead .place)
 
   pub forms-stopped : (x : Refusal) → sectionOf (length (behindHead k)) (formsRead k) ≡ Section.Refused x → formulasPart s ≡ bad
       (x .number) (x .place)
   forms-stopped x m =
-      formulas-2 s counts (hg .rest) (x .number) (x .place) (hg .is)
+      formulas-2 s counts (headRead .rest) (x .number) (x .place) (headRead .is)
       (sym same-forms ∙ section-lost (length (behindHead k)) (formsRead k) x m)
 
   module _ (m : Section-kept formEntry (length (behindHead k)) (formsRead k)) where
-    mg : Section-got (length (behindHead k)) (formsRead k) (m .at)
-    mg = section-got (length (behindHead k)) (formsRead k) (m .at) (m .is)
+    formsGot : Section-got (length (behindHead k)) (formsRead k) (m .at)
+    formsGot = section-got (length (behindHead k)) (formsRead k) (m .at) (m .is)
 
-    rest-inside : length (mg .rest) ≤ length (behindHead k)
-    rest-inside = tail-length (mg .rest) (behindHead k)
-        (many-form-ends (k .principals) (k .atoms) (k .count) .ends (behindHead k) (mg .things) (mg .rest) (mg .is))
+    rest-inside : length (formsGot .rest) ≤ length (behindHead k)
+    rest-inside = tail-length (formsGot .rest) (behindHead k)
+        (many-form-ends (k .principals) (k .atoms) (k .count) .ends (behindHead k) (formsGot .things) (formsGot .rest) (formsGot .is))
 
-    head-inside : length (hg .rest) ≤ length s
-    head-inside = tail-length (hg .rest) s (head-ends .ends s counts (hg .rest) (hg .is))
+    head-inside : length (headRead .rest) ≤ length s
+    head-inside = tail-length (headRead .rest) s (head-ends .ends s counts (headRead .rest) (headRead .is))
 
-    forms-taken : k .at + m .at ≡ length s - length (mg .rest)
-    forms-taken = omega (arith, rest-inside, head-inside, hg .place, mg .place, ap length second)
+    forms-taken : k .at + m .at ≡ length s - length (formsGot .rest)
+    forms-taken = omega (arith, rest-inside, head-inside, headRead .place, formsGot .place, ap length second)
 
     pub forms-inside : k .at + m .at ≤ length s
     forms-inside = omega (arith, forms-taken)
 
-    forms-are : formulasPart s ≡ ok record { principals = k .principals; atoms = k .atoms; forms = mg .things } (mg .rest)
-    forms-are = formulas-3 s counts (hg .rest) (mg .things) (mg .rest) (hg .is) (sym same-forms ∙ mg .is)
+    forms-are : formulasPart s ≡ ok record { principals = k .principals; atoms = k .atoms; forms = formsGot .things } (formsGot .rest)
+    forms-are = formulas-3 s counts (headRead .rest) (formsGot .things) (formsGot .rest) (headRead .is) (sym same-forms ∙ formsGot .is)
 
     pub forms-joined : (Head.Read (k .principals) (k .atoms) (k .count) (k .at + m .at) ≡ formulasOf (length s) (formulasPart s)) ×
         ((f : Formulas) (rest : List ℕ) → formulasPart s ≡ ok f rest → m .numbers ≡ table formEntry (m .len) (f .forms))
     forms-joined = (
-      formulas-read (length s) (formulasPart s) (k .principals) (k .atoms) (k .count) (k .at + m .at) (mg .things) (mg .rest) forms-are
-          (sym (many-length (formItem (k .principals) (k .atoms)) (k .count) [] (behindHead k) (mg .things) (mg .rest) (mg .is))) forms-taken,
-      λ f rest g. m .stored (mg .things) (mg .rest) (mg .is) ∙ ap (λ h. table formEntry (m .len) (h .forms))
-          (same-things (formulasPart s) record { principals = k .principals; atoms = k .atoms; forms = mg .things } f
-          (mg .rest) rest forms-are g),
+      formulas-read (length s) (formulasPart s) (k .principals) (k .atoms) (k .count) (k .at + m .at) (formsGot .things) (formsGot .rest) forms-are
+          (sym (many-length (formItem (k .principals) (k .atoms)) (k .count) [] (behindHead k) (formsGot .things) (formsGot .rest) (formsGot .is))) forms-taken,
+      λ f rest g. m .stored (formsGot .things) (formsGot .rest) (formsGot .is) ∙ ap (λ h. table formEntry (m .len) (h .forms))
+          (same-things (formulasPart s) record { principals = k .principals; atoms = k .atoms; forms = formsGot .things } f
+          (formsGot .rest) rest forms-are g),
     )
 
 -- The table of classes asks what the definition asks.
@@ -224,41 +225,41 @@ module _ {numbers : List ℕ} {n : ℕ} {s : List ℕ} (k : Clauses-kept numbers
       (sym same-items ∙ section-lost (length (k .rest)) (linesRead k) x m)
 
   module _ (m : Section-kept lineEntry (length (k .rest)) (linesRead k)) where
-    lg : Section-got (length (k .rest)) (linesRead k) (m .at)
-    lg = section-got (length (k .rest)) (linesRead k) (m .at) (m .is)
+    linesGot : Section-got (length (k .rest)) (linesRead k) (m .at)
+    linesGot = section-got (length (k .rest)) (linesRead k) (m .at) (m .is)
 
-    third : partFrom (m .at) (k .rest) ≡ lg .rest
-    third = part-is (many (classedItem (k .classes) n) (k .count) []) (many-clause-ends (k .classes) n (k .count)) (k .rest) (lg .things)
-        (lg .rest) (m .at) (lg .is) (lg .place)
+    third : partFrom (m .at) (k .rest) ≡ linesGot .rest
+    third = part-is (many (classedItem (k .classes) n) (k .count) []) (many-clause-ends (k .classes) n (k .count)) (k .rest) (linesGot .things)
+        (linesGot .rest) (m .at) (linesGot .is) (linesGot .place)
 
-    many-lines : length (lg .things) ≡ k .count
-    many-lines = many-length (classedItem (k .classes) n) (k .count) [] (k .rest) (lg .things) (lg .rest) (lg .is)
+    many-lines : length (linesGot .things) ≡ k .count
+    many-lines = many-length (classedItem (k .classes) n) (k .count) [] (k .rest) (linesGot .things) (linesGot .rest) (linesGot .is)
 
     abbrev goalAnswer : List ℕ → NumberLine
     goalAnswer t = numberLineOf (judged (classRefusal goalIn (k .classes) n) (number (valueOf (bytes "goal=") t)))
 
     -- The goal's line as the definition asks for it.
     goal-asked : (a : NumberLine) → goalAnswer (partFrom (m .at) (k .rest)) ≡ a
-        → numberLineOf (judged (goalRefusal (rows numbers n)) (number (valueOf (bytes "goal=") (lg .rest)))) ≡ a
+        → numberLineOf (judged (goalRefusal (rows numbers n)) (number (valueOf (bytes "goal=") (linesGot .rest)))) ≡ a
     goal-asked a e =
         sym (λ i. numberLineOf
         (judged (goal-test numbers n (k .small) (k .classes) (k .tabled) i) (number (valueOf (bytes "goal=") (third i))))) ∙ e
 
     pub lines-place : m .at ≤ length (k .rest)
-    lines-place = omega (arith, lg .place)
+    lines-place = omega (arith, linesGot .place)
 
     pub goal-stopped : (j : ℕ) → goalAnswer (partFrom (m .at) (k .rest)) ≡ NumberLine.Refused j
         → policyPart (unpack formEntry n numbers) s ≡ bad j (6 + n + k .count)
     goal-stopped j e =
-        let place : goalAt (length (rows numbers n)) (length (lg .things)) ≡ 6 + n + k .count = omega
+        let place : goalAt (length (rows numbers n)) (length (linesGot .things)) ≡ 6 + n + k .count = omega
         (arith, many-lines, unpack-length formEntry n numbers) in
-        policy-3 (rows numbers n) s (k .count) (k .rest) (lg .things) (lg .rest) j (6 + n + k .count) first (sym same-items ∙ lg .is)
-        (number-bad "goal=" (goalRefusal (rows numbers n)) (goalAt (length (rows numbers n)) (length (lg .things))) (lg .rest) j
+        policy-3 (rows numbers n) s (k .count) (k .rest) (linesGot .things) (linesGot .rest) j (6 + n + k .count) first (sym same-items ∙ linesGot .is)
+        (number-bad "goal=" (goalRefusal (rows numbers n)) (goalAt (length (rows numbers n)) (length (linesGot .things))) (linesGot .rest) j
         (goal-asked (NumberLine.Refused j) e) ∙ ap (λ h. bad j h) place)
 
     module _ (goal : ℕ) (rest : List ℕ) (r : rest ≡ restOf (partFrom (m .at) (k .rest)))
         (e : goalAnswer (partFrom (m .at) (k .rest)) ≡ NumberLine.Number goal) where
-      goal-behind : rest ≡ restOf (lg .rest)
+      goal-behind : rest ≡ restOf (linesGot .rest)
       goal-behind = r ∙ ap restOf third
 
       pub goal-inside : length rest ≤ length s
@@ -266,13 +267,13 @@ module _ {numbers : List ℕ} {n : ℕ} {s : List ℕ} (k : Clauses-kept numbers
           omega (
             arith,
             rest-short s (k .rest) (k .behind),
-            tail-length (lg .rest) (k .rest) (many-clause-ends (k .classes) n (k .count) .ends (k .rest) (lg .things) (lg .rest) (lg .is)),
-            rest-short (lg .rest) rest goal-behind,
+            tail-length (linesGot .rest) (k .rest) (many-clause-ends (k .classes) n (k .count) .ends (k .rest) (linesGot .things) (linesGot .rest) (linesGot .is)),
+            rest-short (linesGot .rest) rest goal-behind,
           )
 
-      policy-is : policyPart (rows numbers n) s ≡ ok record { lines = lg .things; goal = goal } rest
-      policy-is = policy-4 (rows numbers n) s (k .count) (k .rest) (lg .things) (lg .rest) goal rest first (sym same-items ∙ lg .is)
-          (number-ok "goal=" (goalRefusal (rows numbers n)) (goalAt (length (rows numbers n)) (length (lg .things))) (lg .rest) rest goal
+      policy-is : policyPart (rows numbers n) s ≡ ok record { lines = linesGot .things; goal = goal } rest
+      policy-is = policy-4 (rows numbers n) s (k .count) (k .rest) (linesGot .things) (linesGot .rest) goal rest first (sym same-items ∙ linesGot .is)
+          (number-ok "goal=" (goalRefusal (rows numbers n)) (goalAt (length (rows numbers n)) (length (linesGot .things))) (linesGot .rest) rest goal
           goal-behind (goal-asked (NumberLine.Number goal) e))
 
       pub policy-joined : (Policy.Read (k .count) goal (length s - length rest) ≡ policyOf (length s) (policyPart (unpack formEntry n numbers) s))
@@ -280,10 +281,10 @@ module _ {numbers : List ℕ} {n : ℕ} {s : List ℕ} (k : Clauses-kept numbers
           ((p : PolicyRead) (over : List ℕ) → policyPart (unpack formEntry n numbers) s ≡ ok p over → m .numbers ≡ table lineEntry (m .len)
           (p .lines))
       policy-joined = (
-        policy-read (length s) (policyPart (rows numbers n) s) (k .count) goal (length s - length rest) (lg .things) rest policy-is
+        policy-read (length s) (policyPart (rows numbers n) s) (k .count) goal (length s - length rest) (linesGot .things) rest policy-is
             (sym many-lines) refl,
-        λ p over h. m .stored (lg .things) (lg .rest) (lg .is) ∙ ap (λ y. table lineEntry (m .len) (y .lines))
-            (same-things (policyPart (rows numbers n) s) record { lines = lg .things; goal = goal } p rest over policy-is h),
+        λ p over h. m .stored (linesGot .things) (linesGot .rest) (linesGot .is) ∙ ap (λ y. table lineEntry (m .len) (y .lines))
+            (same-things (policyPart (rows numbers n) s) record { lines = linesGot .things; goal = goal } p rest over policy-is h),
       )
 
 -- The steps: a count, that many `step=` lines.
@@ -321,16 +322,16 @@ module _ {formulas clauses : ℕ} {s : List ℕ} (k : Steps-counted formulas cla
   rows-stopped x m = whole ∙ section-lost (length (k .rest)) (rowsRead k) x m
 
   module _ (m : Section-kept stepEntry (length (k .rest)) (rowsRead k)) where
-    rg : Section-got (length (k .rest)) (rowsRead k) (m .at)
-    rg = section-got (length (k .rest)) (rowsRead k) (m .at) (m .is)
+    rowsGot : Section-got (length (k .rest)) (rowsRead k) (m .at)
+    rowsGot = section-got (length (k .rest)) (rowsRead k) (m .at) (m .is)
 
-    rows-taken : length s - length (k .rest) + m .at ≡ length s - length (rg .rest)
+    rows-taken : length s - length (k .rest) + m .at ≡ length s - length (rowsGot .rest)
     rows-taken =
         omega (
           arith,
           rest-short s (k .rest) (k .behind),
-          tail-length (rg .rest) (k .rest) (many-step-ends formulas clauses (k .count) .ends (k .rest) (rg .things) (rg .rest) (rg .is)),
-          rg .place,
+          tail-length (rowsGot .rest) (k .rest) (many-step-ends formulas clauses (k .count) .ends (k .rest) (rowsGot .things) (rowsGot .rest) (rowsGot .is)),
+          rowsGot .place,
         )
 
     pub rows-inside : length s - length (k .rest) + m .at ≤ length s
@@ -339,8 +340,8 @@ module _ {formulas clauses : ℕ} {s : List ℕ} (k : Steps-counted formulas cla
     pub steps-joined : (Steps.Read (k .count) (length s - length (k .rest) + m .at) ≡ stepsOf (length s) (stepsPart formulas clauses s)) ×
         ((rows : List Row) (rest : List ℕ) → stepsPart formulas clauses s ≡ ok rows rest → m .numbers ≡ table stepEntry (m .len) rows)
     steps-joined = (
-      steps-read (length s) (stepsPart formulas clauses s) (k .count) (length s - length (k .rest) + m .at) (rg .things) (rg .rest)
-          (whole ∙ rg .is) (sym (many-length (stepItem formulas clauses) (k .count) [] (k .rest) (rg .things) (rg .rest) (rg .is))) rows-taken,
-      λ rows rest g. m .stored (rg .things) (rg .rest) (rg .is) ∙ ap (table stepEntry (m .len))
-          (same-things (stepsPart formulas clauses s) (rg .things) rows (rg .rest) rest (whole ∙ rg .is) g),
+      steps-read (length s) (stepsPart formulas clauses s) (k .count) (length s - length (k .rest) + m .at) (rowsGot .things) (rowsGot .rest)
+          (whole ∙ rowsGot .is) (sym (many-length (stepItem formulas clauses) (k .count) [] (k .rest) (rowsGot .things) (rowsGot .rest) (rowsGot .is))) rows-taken,
+      λ rows rest g. m .stored (rowsGot .things) (rowsGot .rest) (rowsGot .is) ∙ ap (table stepEntry (m .len))
+          (same-things (stepsPart formulas clauses s) (rowsGot .things) rows (rowsGot .rest) rest (whole ∙ rowsGot .is) g),
     )
