@@ -6,9 +6,9 @@ use mathlib.Core.Path.{_≡_, refl, ap, sym, _∙_}
 use mathlib.Core.List.{List, [], _∷_, _++_, map, map-append}
 use lib.ListN.{length, getD, take, drop, set, replicate, length-set, length-map, take-append-drop}
 use lib.Seq.{take-suc-set, drop-set-lt, drop-drop}
-use Rattle.scope.specs.Form.{Form}
-use Rattle.scope.specs.Request.{Row, rowForm, formsAfter}
-use Rattle.scope.specs.Tables.{formEntry, unpack, padded}
+use Rattle.scope.specs.Logic.Form.{Form}
+use Rattle.scope.specs.File.Request.{Row, rowForm, formsAfter}
+use Rattle.scope.specs.Call.Tables.{formEntry, unpack, padded}
 use Rattle.scope.specs.Limits.{mostFormulas}
 use Rattle.classes.specs.Class.{classOf, rowClass, classTable}
 use Rattle.classes.specs.Rows.{formRow, form-rows, forms-more, forms-length, unpack-length}

@@ -4,9 +4,9 @@ use mathlib.Core.List.{List, [], _∷_, map}
 use mathlib.Core.Bool.{Bool, true, false}
 use lib.Dec.{eqb}
 use lib.ListN.{getD}
-use Rattle.scope.specs.Form.{Form, both, isGoal, isClause, isChunk, isPolicy}
-use Rattle.scope.specs.Request.{formsAfter}
-use Rattle.scope.specs.Tables.{formEntry, unpack, padded}
+use Rattle.scope.specs.Logic.Form.{Form, both, isGoal, isClause, isChunk, isPolicy}
+use Rattle.scope.specs.File.Request.{formsAfter}
+use Rattle.scope.specs.Call.Tables.{formEntry, unpack, padded}
 use Rattle.scope.specs.Limits.{mostFormulas}
 
 unfoldable pub bit : Bool → ℕ

@@ -6,9 +6,9 @@ use mathlib.Core.Path.{_≡_, refl, ap, sym, _∙_}
 use mathlib.Core.List.{List, [], map}
 use mathlib.Core.Bool.{Bool, true, false}
 use lib.ListN.{length, getD, length-map, List·getD-append, List·getD-map, replicate}
-use Rattle.scope.specs.Form.{Form, atom, top, bot, and, or, imp, says, sf, either, isGoal, isClause, isChunk, isPolicy, isSf}
-use Rattle.scope.specs.Request.{rowForm, formsAfter, formula, goalClass, policyClass}
-use Rattle.scope.specs.Tables.{formEntry, unpack, padded}
+use Rattle.scope.specs.Logic.Form.{Form, atom, top, bot, and, or, imp, says, sf, either, isGoal, isClause, isChunk, isPolicy, isSf}
+use Rattle.scope.specs.File.Request.{rowForm, formsAfter, formula, goalClass, policyClass}
+use Rattle.scope.specs.Call.Tables.{formEntry, unpack, padded}
 use Rattle.scope.specs.Limits.{mostFormulas}
 use Rattle.classes.specs.Class.{bit, classByte, classOf, classTable, goalIn, policyIn, clauseIn, chunkIn, andClass, orClass, impClass, saysClass, rowClass}
 use Rattle.classes.specs.Rows.{forms-length, unpack-length, getD-any}

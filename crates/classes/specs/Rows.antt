@@ -6,10 +6,10 @@ use mathlib.Core.Path.{_≡_, refl, ap, sym, _∙_}
 use mathlib.Core.List.{List, [], _∷_, _++_}
 use lib.ListN.{length, getD, take, drop, length-append}
 use lib.Seq.{drop-drop, getD-take, getD-drop}
-pub use Rattle.scope.specs.Unpack.{unpack-turn, unpack-length}
-use Rattle.scope.specs.Form.{Form}
-use Rattle.scope.specs.Request.{Row, rowForm, formsAfter}
-use Rattle.scope.specs.Tables.{Entry, formEntry, unpack}
+pub use Rattle.scope.specs.Tools.Unpack.{unpack-turn, unpack-length}
+use Rattle.scope.specs.Logic.Form.{Form}
+use Rattle.scope.specs.File.Request.{Row, rowForm, formsAfter}
+use Rattle.scope.specs.Call.Tables.{Entry, formEntry, unpack}
 
 pub forms-more : (fs : List Form) (rs : List Row) (r : Row) →
     formsAfter fs (rs ++ (r ∷ [])) ≡ formsAfter fs rs ++ (rowForm (formsAfter fs rs) r ∷ [])

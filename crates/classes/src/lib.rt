@@ -2,7 +2,7 @@
 ghost use mathlib.Core.Path.{_≡_};
 ghost use Prim.Native.Nat.{_*_, min};
 ghost use lib.ListN.{getD, take};
-ghost use Rattle.scope.specs.Form.{both};
+ghost use Rattle.scope.specs.Logic.Form.{both};
 ghost use Rattle.classes.specs.Class.{bit, goalIn, policyIn, clauseIn, chunkIn, classByte, andClass, orClass, impClass, saysClass, rowClass, classTable};
 
 // A class byte: 1 a goal, 2 a policy line, 4 a clause, 8 a chunk.

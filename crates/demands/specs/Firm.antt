@@ -7,26 +7,26 @@ use mathlib.Core.Option.{Option, none, some}
 use native.Mathlib.Omega.{arith}
 use lib.Dec.{leb}
 use lib.ListN.{length}
-use Rattle.scope.specs.Request.{Request}
+use Rattle.scope.specs.File.Request.{Request}
 use Rattle.scope.specs.Limits.{mostBytes}
-use Rattle.scope.specs.Line.{Line, Value, val, out, Read, ok, bad, Reader, Cut, parts, uncut, cut, strip, settled, judged, valued, placed, lineOf, line, after, _>>=_, done, many, counted}
-use Rattle.scope.specs.Reader.{refused, requestLines, ended, readRequest}
-use Rattle.scope.specs.Tables.{hasRoom}
-use Rattle.scope.specs.Calls.{reading}
-use Rattle.scope.specs.Tests.{never}
+use Rattle.scope.specs.File.Line.{Line, Value, val, out, Read, ok, bad, Reader, Cut, parts, uncut, cut, strip, orRefused, shapedAs, valued, placed, lineOf, line, andThen, _>>=_, done, many, counted}
+use Rattle.scope.specs.File.Reader.{refused, requestLines, ended, readRequest}
+use Rattle.scope.specs.Call.Tables.{hasRoom}
+use Rattle.scope.specs.Call.Calls.{reading}
+use Rattle.scope.specs.Tools.Tests.{never}
 
 pub record Firm {A : Type 0} (m : Reader A) : Type 0 where
   pub firm : (s : List ℕ) (k i : ℕ) → m s ≡ bad k i → 0 < k
 
-settled-firm : {A : Type 0} (n : ℕ) (a : A) (k : ℕ) → settled n a ≡ out k → 0 < k
-unfolding settled
+settled-firm : {A : Type 0} (n : ℕ) (a : A) (k : ℕ) → orRefused n a ≡ out k → 0 < k
+unfolding orRefused
 settled-firm zero a k e = never cc
 settled-firm (suc n) a k e =
     let z : suc n ≡ k = cc in
     omega arith
 
-judged-firm : {A : Type 0} (refusal : A → ℕ) (x : Option A) (k : ℕ) → judged refusal x ≡ out k → 0 < k
-unfolding judged
+judged-firm : {A : Type 0} (refusal : A → ℕ) (x : Option A) (k : ℕ) → shapedAs refusal x ≡ out k → 0 < k
+unfolding shapedAs
 judged-firm refusal none k e =
     let z : 2 ≡ k = cc in
     omega arith
@@ -59,8 +59,8 @@ unfolding line
 line-firm l refusal j = record { firm = λ s k i e. line-of-firm l refusal j (cut 10 s) k i e }
 
 after-firm : {A B : Type 0} (x : Read A) (next : A → Reader B) (k i : ℕ) → ((n j : ℕ) → x ≡ bad n j → 0 < n) →
-    ((a : A) → Firm (next a)) → after x next ≡ bad k i → 0 < k
-unfolding after
+    ((a : A) → Firm (next a)) → andThen x next ≡ bad k i → 0 < k
+unfolding andThen
 after-firm (ok a rest) next k i h f e = f a .firm rest k i e
 after-firm (bad n j) next k i h f e =
     let z : n ≡ k = cc in

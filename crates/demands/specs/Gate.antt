@@ -3,16 +3,16 @@ use Prim.Native.Nat.{ℕ, zero, _*_}
 use mathlib.Core.Path.{_≡_, refl, sym, ap, _∙_}
 use mathlib.Core.List.{List}
 use lib.ListN.{length}
-use Rattle.scope.specs.Answer.{Answer, answer}
+use Rattle.scope.specs.Call.Answer.{Answer, answer}
 use Rattle.scope.specs.Limits.{mostFormulas, mostPolicyLines, mostSteps}
-use Rattle.scope.specs.Request.{Request}
-use Rattle.scope.specs.Reader.{Outcome, read, refused}
-use Rattle.scope.specs.Tables.{requestOf, lentOf}
-use Rattle.scope.specs.Calls.{reading}
-use Rattle.scope.specs.Derivation.{Derivation}
-use Rattle.scope.specs.Room.{within}
-use Rattle.scope.specs.Judge.{policyOf, goalOf, stepsOf, startOf, stepsAnswer, else, judge, Printed, prints, printed, judged, gate}
-use Rattle.scope.specs.Models.{Entailed}
+use Rattle.scope.specs.File.Request.{Request}
+use Rattle.scope.specs.File.Reader.{Outcome, read, refused}
+use Rattle.scope.specs.Call.Tables.{requestOf, lentOf}
+use Rattle.scope.specs.Call.Calls.{reading}
+use Rattle.scope.specs.Logic.Derivation.{Derivation}
+use Rattle.scope.specs.Logic.Room.{within}
+use Rattle.scope.specs.Call.Judge.{policyOf, goalOf, stepsOf, startOf, stepsAnswer, else, judge, Printed, prints, printed, printedAfter, gate}
+use Rattle.scope.specs.Logic.Models.{Entailed}
 use Rattle.granted.specs.Reasons.{Settled, grants}
 use native.Mathlib.Omega.{arith}
 use Rattle.trip.specs.Requests.{read-unrefused}
@@ -30,7 +30,7 @@ pub data Prints (s : List ℕ) : Printed → Type 0 where
   answered : {q : Request} {k place : ℕ} → gateReads s ≡ read q → Settled within (startOf q) (stepsOf q) (answer k place) →
       Prints s (prints k place (length (q .steps)))
 
-gate-law : (s : List ℕ) → gate s ≡ judged (gateReads s)
+gate-law : (s : List ℕ) → gate s ≡ printedAfter (gateReads s)
 unfolding gate
 gate-law s = refl
 
@@ -38,12 +38,12 @@ printed-law : (k place n : ℕ) → printed (answer k place) n ≡ prints k plac
 unfolding printed
 printed-law k place n = refl
 
-judged-read : (q : Request) → judged (read q) ≡ printed (stepsAnswer q) (length (q .steps))
-unfolding judged
+judged-read : (q : Request) → printedAfter (read q) ≡ printed (stepsAnswer q) (length (q .steps))
+unfolding printedAfter
 judged-read q = refl
 
-judged-refused : (k place : ℕ) → judged (refused k place) ≡ prints k place 0
-unfolding judged
+judged-refused : (k place : ℕ) → printedAfter (refused k place) ≡ prints k place 0
+unfolding printedAfter
 judged-refused k place = refl
 
 -- Demands 1 and 2: for every file one answer, and it is allowed;
@@ -59,9 +59,9 @@ gate-prints s = go (gateReads s) refl
 
 -- no other is allowed.
 pub prints-gate : (s : List ℕ) (p : Printed) → Prints s p → gate s ≡ p
-prints-gate s (prints k place zero) (unread e) = gate-law s ∙ ap judged e ∙ judged-refused k place
+prints-gate s (prints k place zero) (unread e) = gate-law s ∙ ap printedAfter e ∙ judged-refused k place
 prints-gate s p (answered {q = q} {k = k} {place = place} e f) =
-    gate-law s ∙ ap judged e ∙ judged-read q ∙ ap (λ a. printed a (length (q .steps))) (steps-settled q (answer k place) .1 f) ∙
+    gate-law s ∙ ap printedAfter e ∙ judged-read q ∙ ap (λ a. printed a (length (q .steps))) (steps-settled q (answer k place) .1 f) ∙
     printed-law k place (length (q .steps))
 
 -- A file that is granted: it reads to a request, and its steps are a derivation within the limits.
@@ -102,4 +102,4 @@ gate-judges s q e =
     let c = fine-checked t (d .0) in
     let j : judge t ≡ stepsAnswer q = judge-law t ∙ ap (λ a. else a (stepsAnswer (requestOf t))) c ∙
     else-passes 0 (stepsAnswer (requestOf t)) ∙ ap stepsAnswer (d .1) in
-    gate-law s ∙ ap judged e ∙ judged-read q ∙ ap (λ a. printed a (length (q .steps))) (sym j)
+    gate-law s ∙ ap printedAfter e ∙ judged-read q ∙ ap (λ a. printed a (length (q .steps))) (sym j)

@@ -3,9 +3,9 @@ use Prim.Native.Nat.{ℕ}
 use mathlib.Core.Path.{_≡_}
 use mathlib.Core.List.{List}
 use lib.ListN.{length}
-use Rattle.scope.specs.Request.{Row}
-use Rattle.scope.specs.Kinds.{kindIn, formKinds, operandsOf}
-use Rattle.scope.specs.Refusals.{formRefusal}
+use Rattle.scope.specs.File.Request.{Row}
+use Rattle.scope.specs.File.Kinds.{kindIn, formKinds, operandsOf}
+use Rattle.scope.specs.File.Refusals.{formRefusal}
 use Rattle.trip.specs.Several.{Each, none-left, one-more}
 use Rattle.trip.specs.RowRanges.{countOf, Below, Passed, row-passed}
 use Rattle.sound.specs.Over.{All}

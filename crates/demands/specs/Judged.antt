@@ -4,19 +4,19 @@ use Prim.Native.Nat.{ℕ, zero, suc, _<_}
 use mathlib.Core.Path.{_≡_, refl, sym, _∙_}
 use mathlib.Core.Logic.{_↔_}
 use native.Mathlib.Omega.{arith}
-use Rattle.scope.specs.Answer.{Answer, answer}
-use Rattle.scope.specs.Request.{Request}
-use Rattle.scope.specs.Tables.{Lent, requestOf}
-use Rattle.scope.specs.Checked.{checked}
-use Rattle.scope.specs.Derivation.{Derivation}
-use Rattle.scope.specs.Room.{within}
-use Rattle.scope.specs.Judge.{policyOf, goalOf, stepsOf, startOf, stepsAnswer, else, judge}
-use Rattle.scope.specs.Models.{Model, Frame, Sat, SatAll, Entailed}
+use Rattle.scope.specs.Call.Answer.{Answer, answer}
+use Rattle.scope.specs.File.Request.{Request}
+use Rattle.scope.specs.Call.Tables.{Lent, requestOf}
+use Rattle.scope.specs.Call.Checked.{checked}
+use Rattle.scope.specs.Logic.Derivation.{Derivation}
+use Rattle.scope.specs.Logic.Room.{within}
+use Rattle.scope.specs.Call.Judge.{policyOf, goalOf, stepsOf, startOf, stepsAnswer, else, judge}
+use Rattle.scope.specs.Logic.Models.{Model, Frame, Sat, SatAll, Entailed}
 use Rattle.granted.specs.Reasons.{Settled, grants, breaks}
 use Rattle.granted.specs.Granted.{granted}
 use Rattle.granted.specs.FirstBreak.{settled, break-range}
 use Rattle.sound.specs.Rows.{request-sound}
-use Rattle.scope.specs.Tests.{never}
+use Rattle.scope.specs.Tools.Tests.{never}
 use Rattle.trip.specs.File.{Unrefused}
 use Rattle.trip.specs.Trip.{checked-fine, unmet}
 use Rattle.demands.specs.InRange.{rows-in}
@@ -76,8 +76,8 @@ allowed-judge t a (by-steps e s) =
     rw (judge-law t, e) (else-passes 0 (stepsAnswer (requestOf t)) ∙ steps-settled (requestOf t) a .1 s)
 
 -- So any two answers allowed are equal.
-pub one-answer : (t : Lent) (a b : Answer) → Answers t a → Answers t b → a ≡ b
-one-answer t a b p q = sym (allowed-judge t a p) ∙ allowed-judge t b q
+pub one-judgement : (t : Lent) (a b : Answer) → Answers t a → Answers t b → a ≡ b
+one-judgement t a b p q = sym (allowed-judge t a p) ∙ allowed-judge t b q
 
 -- Tables and counts that pass their checks, and steps that are a derivation by the rules within the limits.
 pub record Grants (t : Lent) : Type 0 where

@@ -9,8 +9,8 @@ use lib.Dec.{eqb, ltb}
 use lib.Pow.{pow-pos, pow-lt, pow-add, shl-shr}
 use native.Mathlib.Nat.{div-eq-of-lt, div-self, mul-mod-left, mod-eq-of-lt, one-mul, pow-suc, eq-or-lt-of-le}
 use borrow.Author.Tests.{lt-ltb, le-ltb, ltb-true, eq-eqb, eqb-true, eqb-false}
-use Rattle.scope.specs.Form.{both}
-use Rattle.scope.specs.Tests.{both-true}
+use Rattle.scope.specs.Logic.Form.{both}
+use Rattle.scope.specs.Tools.Tests.{both-true}
 use Rattle.facts.specs.Fill.{below-or-past}
 
 -- The row, or the row of no bits.

@@ -5,7 +5,7 @@ use mathlib.Core.Path.{_≡_}
 use mathlib.Core.Logic.{⊎-elim}
 use native.Mathlib.Omega.{arith}
 use native.Mathlib.Nat.{eq-or-lt-of-le}
-use Rattle.scope.specs.Facts.{Fact, le, by, sf, Rules}
+use Rattle.scope.specs.Logic.Facts.{Fact, le, by, sf, Rules}
 use Rattle.facts.specs.Kept.{Proper, Way, stop, up-le, up-by, way-from}
 
 -- Along a way sf facts go on (rules 4 and 5), and S facts from its end are S facts from its beginning (rules 6 and 9).

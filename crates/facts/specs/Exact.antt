@@ -7,7 +7,7 @@ use mathlib.Core.Path.{_≡_, refl}
 use mathlib.Core.List.{List, [], _∷_}
 use mathlib.Core.Logic.{_↔_}
 use native.Mathlib.Omega.{arith}
-use Rattle.scope.specs.Facts.{Fact, le, by, sf, Closed, Among}
+use Rattle.scope.specs.Logic.Facts.{Fact, le, by, sf, Closed, Among}
 use Rattle.facts.specs.Rows.{worldsMax, principalsMax, told, sfRows, putSf, rootRows, grownLe, grownBy, noted}
 use Rattle.facts.specs.Kept.{Aimed, Kept, Agree, agree-self, agree-then, agree-put, kept-back}
 use Rattle.facts.specs.Grown.{kept-le, kept-by, agree-le, agree-by}

@@ -5,7 +5,7 @@ use mathlib.Core.Path.{_≡_, refl, sym, _∙_}
 use mathlib.Core.List.{List, _∷_}
 use native.Mathlib.Omega.{arith}
 use lib.ListN.{getD}
-use Rattle.scope.specs.Facts.{Fact, le, by, sf, Closed, given, rule1, rule2, rule3, rule7, rule8, Among, here, closed}
+use Rattle.scope.specs.Logic.Facts.{Fact, le, by, sf, Closed, given, rule1, rule2, rule3, rule7, rule8, Among, here, closed}
 use Rattle.facts.specs.Rows.{worldsMax, principalsMax, leAt, upAt, byAt, bitOf, told, sfRows, speaksIn, leadRow, unseenRow, seenRow, newWorld, grownLe, grownBy}
 use Rattle.facts.specs.Fill.{fill}
 use Rattle.facts.specs.Bits.{told-none, told-when, when-told}

@@ -9,7 +9,7 @@ use native.Mathlib.Omega.{arith}
 use native.Mathlib.Nat.{zero-add}
 use lib.ListN.{length, getD, replicate, length-replicate}
 use borrow.Author.Tests.{lt-ltb}
-use Rattle.scope.specs.Facts.{Fact, le, by, sf, Closed, Among, least}
+use Rattle.scope.specs.Logic.Facts.{Fact, le, by, sf, Closed, Among, least}
 use Rattle.facts.specs.Fill.{fill, length-fill, fill-before, fill-at, below-or-past}
 use Rattle.facts.specs.Rows.{worldsMax, principalsMax, rowsEach, rowsMax, leAt, upAt, byAt, sfAt, bitOf, byRow, sfRow, told, sfRows, backRow, putSf, speaksIn}
 

@@ -9,7 +9,7 @@ use native.Mathlib.Omega.{arith}
 use native.Mathlib.Nat.{eq-or-lt-of-le}
 use lib.ListN.{getD}
 use lib.Bits.{bitOr}
-use Rattle.scope.specs.Facts.{Fact, le, by, sf, Rules, Closed, given, rule7, Among, here, there, closed, least}
+use Rattle.scope.specs.Logic.Facts.{Fact, le, by, sf, Rules, Closed, given, rule7, Among, here, there, closed, least}
 use Rattle.facts.specs.Rows.{worldsMax, principalsMax, upAt, bitOf, oneBit, told}
 use Rattle.facts.specs.Bits.{told-left, told-right, told-either, told-self, told-only}
 use Rattle.facts.specs.Kept.{Proper, Aimed, Way, stop, way-to, Kept, proper, aimed, by-row, sf-row, told-same}

@@ -8,7 +8,7 @@ use native.Mathlib.Omega.{arith}
 use native.Mathlib.Nat.{eq-or-lt-of-le}
 use lib.ListN.{getD}
 use lib.Bits.{bitOr}
-use Rattle.scope.specs.Facts.{Fact, le, by, sf, Closed, given, rule1, rule3, Among, here, there, closed, least}
+use Rattle.scope.specs.Logic.Facts.{Fact, le, by, sf, Closed, given, rule1, rule3, Among, here, there, closed, least}
 use Rattle.facts.specs.Fill.{fill, length-fill, fill-before, fill-at}
 use Rattle.facts.specs.Rows.{worldsMax, principalsMax, leAt, upAt, byAt, sfAt, bitOf, told, sfRows, speaksIn, takenRow, notedRow, noted}
 use Rattle.facts.specs.Bits.{when, told-left, told-right, told-either, told-when, when-told}

@@ -6,8 +6,8 @@ use mathlib.Core.List.{List, []}
 use native.Mathlib.Omega.{arith}
 use lib.ListN.{length, getD, set, replicate, length-set, length-replicate, getD-replicate}
 use lib.Seq.{getD-set-same, getD-set-other}
-use Rattle.scope.specs.Tests.{never}
-use Rattle.scope.specs.Facts.{Fact, le, by, sf, Rules, Closed, rule1, rule7, Among, here, there, least}
+use Rattle.scope.specs.Tools.Tests.{never}
+use Rattle.scope.specs.Logic.Facts.{Fact, le, by, sf, Rules, Closed, rule1, rule7, Among, here, there, least}
 use Rattle.facts.specs.Fill.{fill, length-fill, fill-before, fill-at}
 use Rattle.facts.specs.Rows.{worldsMax, principalsMax, rowsMax, leAt, upAt, byAt, sfAt, bitOf, oneBit, told, withRoot, rootRows}
 use Rattle.facts.specs.Bits.{oneIn, told-none, told-self, told-only}

@@ -7,7 +7,7 @@ use lib.ListN.{getD, set, replicate}
 use lib.Bits.{bitOr}
 use lib.Dec.{ltb}
 use Rattle.scope.specs.Limits.{mostWorlds, mostPrincipals}
-use Rattle.scope.specs.Facts.{Fact, le, by, sf}
+use Rattle.scope.specs.Logic.Facts.{Fact, le, by, sf}
 use Rattle.facts.specs.Fill.{fill}
 use Rattle.facts.specs.Bits.{when, bitIn, oneIn}
 

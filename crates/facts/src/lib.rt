@@ -2,7 +2,7 @@
 // rows of sf of its own world, so nothing is ever closed again, and a waiting obligation saves no more than the rows of sf of its newest world.
 ghost use mathlib.Core.Path.{_≡_};
 ghost use lib.ListN.{getD, set};
-ghost use Rattle.scope.specs.Facts.{le, by, sf};
+ghost use Rattle.scope.specs.Logic.Facts.{le, by, sf};
 ghost use Rattle.facts.specs.Bits.{when};
 ghost use Rattle.facts.specs.Rows.{rowAt, bitOf, oneBit, byRow, sfRow, told};
 ghost use Rattle.facts.specs.Rows.{sfRows, putSf, speaksIn, rootRows, newWorld, grownLe, grownBy, noted};

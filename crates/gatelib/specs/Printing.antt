@@ -3,14 +3,14 @@ use Prim.Native.Nat.{ℕ, _*_}
 use mathlib.Core.Path.{_≡_, refl, sym, ap, _∙_}
 use mathlib.Core.List.{List}
 use lib.ListN.{length}
-use Rattle.scope.specs.Request.{Request}
-use Rattle.scope.specs.Answer as S
+use Rattle.scope.specs.File.Request.{Request}
+use Rattle.scope.specs.Call.Answer as S
 use Rattle.scope.specs.Limits.{mostFormulas, mostPolicyLines, mostSteps}
-use Rattle.scope.specs.Reader.{Outcome, read, refused}
-use Rattle.scope.specs.Tables.{lentOf}
-use Rattle.scope.specs.Calls.{formTableAfter, lineTableAfter, stepTableAfter, requestIn}
-use Rattle.scope.specs.Judge.{judge, prints, printed, gate}
-use Rattle.scope.specs.Judge as J
+use Rattle.scope.specs.File.Reader.{Outcome, read, refused}
+use Rattle.scope.specs.Call.Tables.{lentOf}
+use Rattle.scope.specs.Call.Calls.{formTableAfter, lineTableAfter, stepTableAfter, requestIn}
+use Rattle.scope.specs.Call.Judge.{judge, prints, printed, gate}
+use Rattle.scope.specs.Call.Judge as J
 use Rattle.counts.specs.declared.Counts.{Counts}
 use Rattle.counts.specs.declared.Refusal.{Refusal}
 use Rattle.tables.specs.Met.{lentWith}
@@ -19,7 +19,7 @@ use Rattle.reader.specs.declared.Reading.the-variants as Reading
 use Rattle.reader.specs.Answers.{countsOf, readingOf}
 use Rattle.judge.specs.declared.Answer.{Answer}
 use Rattle.judge.specs.Answers.{answerOf}
-use Rattle.scope.specs.Tests.{never}
+use Rattle.scope.specs.Tools.Tests.{never}
 use Rattle.demands.specs.Gate.{gateReads, gate-judges, prints-gate, unread}
 use Rattle.gatelib.specs.declared.Printed.{Printed}
 

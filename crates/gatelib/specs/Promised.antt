@@ -4,22 +4,22 @@ use Prim.Native.Nat.{ℕ}
 use mathlib.Core.Path.{_≡_, refl, sym, ap, _∙_}
 use mathlib.Core.List.{List}
 use lib.ListN.{length}
-use Rattle.scope.specs.Request.{Request}
-use Rattle.scope.specs.Judge as J
-use Rattle.scope.specs.Judge.{policyOf, goalOf, prints, gate}
-use Rattle.scope.specs.Models.{Entailed}
+use Rattle.scope.specs.File.Request.{Request}
+use Rattle.scope.specs.Call.Judge as J
+use Rattle.scope.specs.Call.Judge.{policyOf, goalOf, prints, gate}
+use Rattle.scope.specs.Logic.Models.{Entailed}
 use Rattle.demands.specs.Gate.{Granting, granted-gate, gate-grants, gate-entails}
 use Rattle.gatelib.specs.declared.Printed.{Printed}
 use Rattle.gatelib.specs.Printing.{printedOf}
 
-zero-granted : (s : List ℕ) (p : J.Printed) → gate s ≡ p → printedOf p .answer ≡ 0 → (q : Request) × Granting s q × (length (q .steps) ≡ printedOf p .steps)
+zero-read : (s : List ℕ) (p : J.Printed) → gate s ≡ p → printedOf p .answer ≡ 0 → (q : Request) × Granting s q × (length (q .steps) ≡ printedOf p .steps)
 unfolding printedOf
-zero-granted s (prints k place n) e z = granted-gate s place n (e ∙ ap (λ x. prints x place n) z)
+zero-read s (prints k place n) e z = granted-gate s place n (e ∙ ap (λ x. prints x place n) z)
 
 pub answer-zero : (s : List ℕ) (r : Printed) → r ≡ printedOf (gate s) → r .answer ≡ 0 →
     (q : Request) × Granting s q × (length (q .steps) ≡ r .steps)
 answer-zero s r e z =
-    let g = zero-granted s (gate s) refl (sym (ap (λ (p : Printed). p .answer) e) ∙ z) in
+    let g = zero-read s (gate s) refl (sym (ap (λ (p : Printed). p .answer) e) ∙ z) in
     (g .0, g .1, g .2 ∙ sym (ap (λ (p : Printed). p .steps) e))
 
 pub zero-answer : (s : List ℕ) (r : Printed) (q : Request) → r ≡ printedOf (gate s) → Granting s q →

@@ -1,6 +1,6 @@
 // The gate: from the bytes of a file to the three numbers that are printed.
 ghost use mathlib.Core.Path.{_≡_};
-ghost use Rattle.scope.specs.Judge.{gate as gate'};
+ghost use Rattle.scope.specs.Call.Judge.{gate as gate'};
 ghost use Rattle.gatelib.specs.Printing.{printedOf, unreadOf};
 use reader::Reading;
 

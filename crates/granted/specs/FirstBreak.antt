@@ -12,10 +12,10 @@ use mathlib.Core.List.{List, [], _∷_, _++_}
 use mathlib.Core.Logic.{_↔_}
 use lib.ListN.{length, drop}
 use native.Mathlib.Omega.{arith}
-use Rattle.scope.specs.Answer.{Answer, answer}
-use Rattle.scope.specs.Derivation.{Rule}
-use Rattle.scope.specs.Obligation.{Obligation, Step}
-use Rattle.scope.specs.Walk.{walk}
+use Rattle.scope.specs.Call.Answer.{Answer, answer}
+use Rattle.scope.specs.Logic.Derivation.{Rule}
+use Rattle.scope.specs.Logic.Obligation.{Obligation, Step}
+use Rattle.scope.specs.Logic.Walk.{walk}
 use Rattle.granted.specs.Reasons.{Room, Reaches, here, onward, Breaks, too-long, refused, too-much, too-short, Settled}
 use Rattle.granted.specs.Reasons.{grants, breaks}
 use Rattle.granted.specs.Refusals.{in-range}

@@ -3,31 +3,31 @@
 -- Each handler of the walk (a phase, a kind of formula) has one lemma; the eighteen steps are then a line each.
 use Prim.Native.Nat.{ℕ}
 use mathlib.Core.List.{List}
-use Rattle.scope.specs.Form as F
-use Rattle.scope.specs.Form.{Form}
-use Rattle.scope.specs.Obligation.{Lab, lab, Sequent, Phase, goal, chunks, focus, Obligation, ob}
-use Rattle.scope.specs.Obligation.{Step, And, Or1, Or2, Imp, Says, Top, Sf, Use, Left, Right, To, Hit, Push, Split, Case, Absurd, Drop}
-use Rattle.scope.specs.Obligation.{Note}
-use Rattle.scope.specs.Walk.{Move, refuse, atGoal, inFocus, atChunk, byKind, onAtom, onTop, onBot, onAnd, onOr, onImp, onSays, onSf}
-use Rattle.scope.specs.Walk.{onImpSays, onPushed, stepOn}
+use Rattle.scope.specs.Logic.Form as F
+use Rattle.scope.specs.Logic.Form.{Form}
+use Rattle.scope.specs.Logic.Obligation.{Lab, lab, Sequent, Phase, goal, chunks, focus, Obligation, ob}
+use Rattle.scope.specs.Logic.Obligation.{Step, And, Or1, Or2, Imp, Says, Top, Sf, Use, Left, Right, To, Hit, Push, Split, Case, Absurd, Drop}
+use Rattle.scope.specs.Logic.Obligation.{Note}
+use Rattle.scope.specs.Logic.Walk.{Onward, refuse, atGoal, inFocus, atChunk, byKind, onAtom, onTop, onBot, onAnd, onOr, onImp, onSays, onSf}
+use Rattle.scope.specs.Logic.Walk.{onImpSays, onPushed, stepOn}
 use Rattle.granted.specs.Reasons.{Fits, fits-and, fits-or1, fits-or2, fits-imp, fits-says, fits-top, fits-sf, fits-use, fits-left}
 use Rattle.granted.specs.Reasons.{fits-right, fits-to-imp, fits-to-says, fits-hit, fits-push-atom, fits-push-imp, fits-push-says}
 use Rattle.granted.specs.Reasons.{fits-split, fits-case, fits-absurd, fits-drop, fits-note}
 
-pub data Fitting (o : Obligation) (x : Step) : Move → Type 0 where
-  fit : {m : Move} → Fits o x → Fitting o x m
+pub data Fitting (o : Obligation) (x : Step) : Onward → Type 0 where
+  fit : {m : Onward} → Fits o x → Fitting o x m
   unfit : Fitting o x (refuse 7)
 
 -- Each phase has its own steps: in the other two a step does not fit.
 
-at-goal : (x : Step) (s : Sequent) (m : Form → ℕ → Move) →
+at-goal : (x : Step) (s : Sequent) (m : Form → ℕ → Onward) →
     ((f : Form) (u : ℕ) → Fitting (ob s (goal (lab f u))) x (m f u)) → (p : Phase) → Fitting (ob s p) x (atGoal p m)
 unfolding atGoal
 at-goal x s m h (goal g) = h (g .form) (g .at)
 at-goal x s m h (chunks c cs g) = unfit
 at-goal x s m h (focus d q w met) = unfit
 
-in-focus : (x : Step) (s : Sequent) (m : Form → ℕ → ℕ → ℕ → List Lab → Move) →
+in-focus : (x : Step) (s : Sequent) (m : Form → ℕ → ℕ → ℕ → List Lab → Onward) →
     ((f : Form) (u q w : ℕ) (met : List Lab) → Fitting (ob s (focus (lab f u) q w met)) x (m f u q w met)) → (p : Phase) →
     Fitting (ob s p) x (inFocus p m)
 unfolding inFocus
@@ -35,7 +35,7 @@ in-focus x s m h (goal g) = unfit
 in-focus x s m h (chunks c cs g) = unfit
 in-focus x s m h (focus d q w met) = h (d .form) (d .at) q w met
 
-at-chunk : (x : Step) (s : Sequent) (m : Form → List Form → Lab → Move) →
+at-chunk : (x : Step) (s : Sequent) (m : Form → List Form → Lab → Onward) →
     ((f : Form) (cs : List Form) (g : Lab) → Fitting (ob s (chunks f cs g)) x (m f cs g)) → (p : Phase) →
     Fitting (ob s p) x (atChunk p m)
 unfolding atChunk
@@ -45,7 +45,7 @@ at-chunk x s m h (focus d q w met) = unfit
 
 -- Each kind of formula: `at f` is the obligation that has the formula f in the place that the step works on.
 module _ (x : Step) (at : Form → Obligation) where
-  by-kind : {mp : ℕ → Move} {mt mb : Move} {ma mo mi : Form → Form → Move} {ms : ℕ → Form → Move} {mf : ℕ → ℕ → Move} →
+  by-kind : {mp : ℕ → Onward} {mt mb : Onward} {ma mo mi : Form → Form → Onward} {ms : ℕ → Form → Onward} {mf : ℕ → ℕ → Onward} →
       ((p : ℕ) → Fitting (at (F.atom p)) x (mp p)) → Fitting (at F.top) x mt → Fitting (at F.bot) x mb →
       ((f g : Form) → Fitting (at (F.and f g)) x (ma f g)) → ((f g : Form) → Fitting (at (F.or f g)) x (mo f g)) →
       ((f g : Form) → Fitting (at (F.imp f g)) x (mi f g)) → ((a : ℕ) (f : Form) → Fitting (at (F.says a f)) x (ms a f)) →
@@ -60,45 +60,45 @@ module _ (x : Step) (at : Form → Obligation) where
   by-kind hp ht hb ha ho hi hs hf (F.says a f) = hs a f
   by-kind hp ht hb ha ho hi hs hf (F.sf a b) = hf a b
 
-  on-atom : (m : ℕ → Move) → ((p : ℕ) → Fits (at (F.atom p)) x) → (f : Form) → Fitting (at f) x (onAtom f m)
+  on-atom : (m : ℕ → Onward) → ((p : ℕ) → Fits (at (F.atom p)) x) → (f : Form) → Fitting (at f) x (onAtom f m)
   unfolding onAtom
   on-atom m h f = by-kind (λ p. fit (h p)) unfit unfit (λ f g. unfit) (λ f g. unfit) (λ f g. unfit) (λ a f. unfit) (λ a b. unfit) f
 
-  on-top : (m : Move) → Fits (at F.top) x → (f : Form) → Fitting (at f) x (onTop f m)
+  on-top : (m : Onward) → Fits (at F.top) x → (f : Form) → Fitting (at f) x (onTop f m)
   unfolding onTop
   on-top m h f = by-kind (λ p. unfit) (fit h) unfit (λ f g. unfit) (λ f g. unfit) (λ f g. unfit) (λ a f. unfit) (λ a b. unfit) f
 
-  on-bot : (m : Move) → Fits (at F.bot) x → (f : Form) → Fitting (at f) x (onBot f m)
+  on-bot : (m : Onward) → Fits (at F.bot) x → (f : Form) → Fitting (at f) x (onBot f m)
   unfolding onBot
   on-bot m h f = by-kind (λ p. unfit) unfit (fit h) (λ f g. unfit) (λ f g. unfit) (λ f g. unfit) (λ a f. unfit) (λ a b. unfit) f
 
-  on-and : (m : Form → Form → Move) → ((f g : Form) → Fits (at (F.and f g)) x) → (f : Form) → Fitting (at f) x (onAnd f m)
+  on-and : (m : Form → Form → Onward) → ((f g : Form) → Fits (at (F.and f g)) x) → (f : Form) → Fitting (at f) x (onAnd f m)
   unfolding onAnd
   on-and m h f = by-kind (λ p. unfit) unfit unfit (λ f g. fit (h f g)) (λ f g. unfit) (λ f g. unfit) (λ a f. unfit) (λ a b. unfit) f
 
-  on-or : (m : Form → Form → Move) → ((f g : Form) → Fits (at (F.or f g)) x) → (f : Form) → Fitting (at f) x (onOr f m)
+  on-or : (m : Form → Form → Onward) → ((f g : Form) → Fits (at (F.or f g)) x) → (f : Form) → Fitting (at f) x (onOr f m)
   unfolding onOr
   on-or m h f = by-kind (λ p. unfit) unfit unfit (λ f g. unfit) (λ f g. fit (h f g)) (λ f g. unfit) (λ a f. unfit) (λ a b. unfit) f
 
-  on-imp : (m : Form → Form → Move) → ((f g : Form) → Fits (at (F.imp f g)) x) → (f : Form) → Fitting (at f) x (onImp f m)
+  on-imp : (m : Form → Form → Onward) → ((f g : Form) → Fits (at (F.imp f g)) x) → (f : Form) → Fitting (at f) x (onImp f m)
   unfolding onImp
   on-imp m h f = by-kind (λ p. unfit) unfit unfit (λ f g. unfit) (λ f g. unfit) (λ f g. fit (h f g)) (λ a f. unfit) (λ a b. unfit) f
 
-  on-says : (m : ℕ → Form → Move) → ((a : ℕ) (f : Form) → Fits (at (F.says a f)) x) → (f : Form) → Fitting (at f) x (onSays f m)
+  on-says : (m : ℕ → Form → Onward) → ((a : ℕ) (f : Form) → Fits (at (F.says a f)) x) → (f : Form) → Fitting (at f) x (onSays f m)
   unfolding onSays
   on-says m h f = by-kind (λ p. unfit) unfit unfit (λ f g. unfit) (λ f g. unfit) (λ f g. unfit) (λ a f. fit (h a f)) (λ a b. unfit) f
 
-  on-sf : (m : ℕ → ℕ → Move) → ((a b : ℕ) → Fits (at (F.sf a b)) x) → (f : Form) → Fitting (at f) x (onSf f m)
+  on-sf : (m : ℕ → ℕ → Onward) → ((a b : ℕ) → Fits (at (F.sf a b)) x) → (f : Form) → Fitting (at f) x (onSf f m)
   unfolding onSf
   on-sf m h f = by-kind (λ p. unfit) unfit unfit (λ f g. unfit) (λ f g. unfit) (λ f g. unfit) (λ a f. unfit) (λ a b. fit (h a b)) f
 
-  on-imp-says : (m : Form → Form → Move) (n : ℕ → Form → Move) → ((f g : Form) → Fits (at (F.imp f g)) x) →
+  on-imp-says : (m : Form → Form → Onward) (n : ℕ → Form → Onward) → ((f g : Form) → Fits (at (F.imp f g)) x) →
       ((a : ℕ) (f : Form) → Fits (at (F.says a f)) x) → (f : Form) → Fitting (at f) x (onImpSays f m n)
   unfolding onImpSays
   on-imp-says m n h i f =
       by-kind (λ p. unfit) unfit unfit (λ f g. unfit) (λ f g. unfit) (λ f g. fit (h f g)) (λ a f. fit (i a f)) (λ a b. unfit) f
 
-  on-pushed : (m : Move) → ((p : ℕ) → Fits (at (F.atom p)) x) → ((f g : Form) → Fits (at (F.imp f g)) x) →
+  on-pushed : (m : Onward) → ((p : ℕ) → Fits (at (F.atom p)) x) → ((f g : Form) → Fits (at (F.imp f g)) x) →
       ((a : ℕ) (f : Form) → Fits (at (F.says a f)) x) → (f : Form) → Fitting (at f) x (onPushed f m)
   unfolding onPushed
   on-pushed m h i j (F.atom p) = fit (h p)

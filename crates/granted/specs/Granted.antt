@@ -7,10 +7,10 @@ use mathlib.Core.List.{List, [], _∷_, _++_}
 use mathlib.Core.Logic.{_↔_}
 use lib.ListN.{length, length-append}
 use native.Mathlib.Omega.{arith}
-use Rattle.scope.specs.Answer.{answer}
-use Rattle.scope.specs.Derivation.{Derives, DerivesAll, step, none, first, Derivation}
-use Rattle.scope.specs.Obligation.{Obligation, Step}
-use Rattle.scope.specs.Walk.{walk}
+use Rattle.scope.specs.Call.Answer.{answer}
+use Rattle.scope.specs.Logic.Derivation.{Derives, DerivesAll, step, none, first, Derivation}
+use Rattle.scope.specs.Logic.Obligation.{Obligation, Step}
+use Rattle.scope.specs.Logic.Walk.{walk}
 use Rattle.granted.specs.Reasons.{Room}
 use Rattle.granted.specs.Walks.{Turn, on, over, stop, turn, walk-on}
 

@@ -9,12 +9,12 @@ use mathlib.Core.Bool.{true}
 use mathlib.Core.List.{List, [], _∷_, _++_}
 use lib.ListN.{length}
 use native.Mathlib.Omega.{arith}
-use Rattle.scope.specs.Tests.{never}
-use Rattle.scope.specs.Answer.{Answer, answer}
-use Rattle.scope.specs.Derivation.{Rule, Derives, DerivesAll, step, none, first, Derivation}
-use Rattle.scope.specs.Room.{free}
-use Rattle.scope.specs.Obligation.{Obligation, Step}
-use Rattle.scope.specs.Walk.{walk}
+use Rattle.scope.specs.Tools.Tests.{never}
+use Rattle.scope.specs.Call.Answer.{Answer, answer}
+use Rattle.scope.specs.Logic.Derivation.{Rule, Derives, DerivesAll, step, none, first, Derivation}
+use Rattle.scope.specs.Logic.Room.{free}
+use Rattle.scope.specs.Logic.Obligation.{Obligation, Step}
+use Rattle.scope.specs.Logic.Walk.{walk}
 use Rattle.granted.specs.Reasons.{Room, Reaches, here, onward, Breaks, refused, too-much}
 use Rattle.granted.specs.Refusals.{in-range}
 use Rattle.granted.specs.Walks.{Turn, on, over, stop, turn, walk-on, walk-stop}

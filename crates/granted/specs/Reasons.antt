@@ -6,14 +6,14 @@ use mathlib.Core.Bool.{Bool, true, false}
 use mathlib.Core.List.{List, [], _∷_, _++_}
 use mathlib.Core.Option.{some, none}
 use lib.ListN.{length, getElem?}
-use Rattle.scope.specs.Form as F
-use Rattle.scope.specs.Form.{Form, isSf}
-use Rattle.scope.specs.Facts as Fact
-use Rattle.scope.specs.Answer.{Answer, answer}
-use Rattle.scope.specs.Derivation.{Has, Rule, Derivation}
-use Rattle.scope.specs.Obligation.{Lab, lab, Sequent, Phase, goal, chunks, focus, Obligation, ob}
-use Rattle.scope.specs.Obligation.{Step, And, Or1, Or2, Imp, Says, Top, Sf, Use, Left, Right, To, Hit, Push, Split, Case, Absurd, Drop}
-use Rattle.scope.specs.Obligation.{Note}
+use Rattle.scope.specs.Logic.Form as F
+use Rattle.scope.specs.Logic.Form.{Form, isSf}
+use Rattle.scope.specs.Logic.Facts as Fact
+use Rattle.scope.specs.Call.Answer.{Answer, answer}
+use Rattle.scope.specs.Logic.Derivation.{Has, Rule, Derivation}
+use Rattle.scope.specs.Logic.Obligation.{Lab, lab, Sequent, Phase, goal, chunks, focus, Obligation, ob}
+use Rattle.scope.specs.Logic.Obligation.{Step, And, Or1, Or2, Imp, Says, Top, Sf, Use, Left, Right, To, Hit, Push, Split, Case, Absurd, Drop}
+use Rattle.scope.specs.Logic.Obligation.{Note}
 
 -- The step fits the obligation: its phase, and the kind of the formula that is worked on.
 pub data Fits : Obligation → Step → Type 0 where

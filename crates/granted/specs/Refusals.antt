@@ -9,9 +9,9 @@ use mathlib.Core.Path.{_≡_}
 use mathlib.Core.List.{List}
 use mathlib.Core.Logic.{_↔_}
 use native.Mathlib.Omega.{arith}
-use Rattle.scope.specs.Derivation.{Rule}
-use Rattle.scope.specs.Obligation.{Obligation, Step}
-use Rattle.scope.specs.Walk.{Move, refuse, stepOn}
+use Rattle.scope.specs.Logic.Derivation.{Rule}
+use Rattle.scope.specs.Logic.Obligation.{Obligation, Step}
+use Rattle.scope.specs.Logic.Walk.{Onward, refuse, stepOn}
 use Rattle.granted.specs.Reasons.{Fits, Unnamed, Named, Unbacked, Backed, Refuses, misfits, unnamed, unbacked}
 use Rattle.granted.specs.Steps.{rule-named, rule-backed, Told, ruled, barred, rule-fits, told, refuses-step}
 
@@ -30,7 +30,7 @@ in-range (unnamed f u) = omega arith
 in-range (unbacked f n b) = omega arith
 
 -- Nothing stands in the way of a step that is not refused.
-told-rule : {o : Obligation} {x : Step} {m : Move} → Told o x m → Fits o x → Named o x → Backed o x →
+told-rule : {o : Obligation} {x : Step} {m : Onward} → Told o x m → Fits o x → Named o x → Backed o x →
     (os : List Obligation) × Rule o x os
 told-rule (ruled {os} r) f n b = (os, r)
 told-rule (barred (misfits l)) f n b = absurd (l f)

@@ -12,17 +12,17 @@ use lib.ListN.{getElem?}
 use lib.Dec.{eqb, ltb}
 use native.Mathlib.Omega.{arith}
 use borrow.Author.Tests.{lt-ltb, eq-eqb}
-use Rattle.scope.specs.Tests.{never}
-use Rattle.scope.specs.Form.{isSf, isPushed, negate}
-use Rattle.scope.specs.Facts.{Fact, le, by, sf}
-use Rattle.scope.specs.Agree.{agree-full}
-use Rattle.scope.specs.Derivation.{Has, Rule, by-and, by-or1, by-or2, by-imp, by-says, by-top, by-sf, by-use, by-left, by-right, by-to-imp}
-use Rattle.scope.specs.Derivation.{by-to-says, by-hit, by-push, by-split, by-case, by-absurd, by-drop, by-note}
-use Rattle.scope.specs.Obligation.{Lab, Sequent, Obligation, Step}
-use Rattle.scope.specs.Walk.{Move, onto, refuse, need, has, onClause, stepOn}
+use Rattle.scope.specs.Tools.Tests.{never}
+use Rattle.scope.specs.Logic.Form.{isSf, isPushed, negate}
+use Rattle.scope.specs.Logic.Facts.{Fact, le, by, sf}
+use Rattle.scope.specs.Closing.Agree.{agree-full}
+use Rattle.scope.specs.Logic.Derivation.{Has, Rule, by-and, by-or1, by-or2, by-imp, by-says, by-top, by-sf, by-use, by-left, by-right, by-to-imp}
+use Rattle.scope.specs.Logic.Derivation.{by-to-says, by-hit, by-push, by-split, by-case, by-absurd, by-drop, by-note}
+use Rattle.scope.specs.Logic.Obligation.{Lab, Sequent, Obligation, Step}
+use Rattle.scope.specs.Logic.Walk.{Onward, onto, refuse, need, has, onClause, stepOn}
 use Rattle.granted.specs.Reasons.{Fits, Unnamed, no-world, no-clause, sf-line, Unbacked, no-sf, no-le-to, no-by-to, no-le-hit}
 use Rattle.granted.specs.Reasons.{other-atom, Refuses, misfits, unnamed, unbacked}
-use Rattle.granted.specs.Judged.{Judged, goes, eight, nine, fitted}
+use Rattle.granted.specs.Judged.{Answered, goes, eight, nine, fitted}
 use Rattle.granted.specs.Fitting.{Fitting, fit, unfit, fits-or-seven}
 
 -- A rule names what there is,
@@ -41,43 +41,43 @@ rule-backed (no-by-to n) (by-to-says i h) = n h
 rule-backed (no-le-hit n) (by-hit h) = n h
 rule-backed (other-atom n) (by-hit h) = n refl
 
-need-met : (k : ℕ) (t : Bool) (m : Move) → t ≡ true → need k t m ≡ m
+need-met : (k : ℕ) (t : Bool) (m : Onward) → t ≡ true → need k t m ≡ m
 unfolding need
 need-met k t m e = rw e
 
-clause-met : (o : Option Lab) (l : Lab) (m : Lab → Move) → o ≡ some l → isSf (l .form) ≡ false → onClause o m ≡ m l
+clause-met : (o : Option Lab) (l : Lab) (m : Lab → Onward) → o ≡ some l → isSf (l .form) ≡ false → onClause o m ≡ m l
 unfolding onClause need negate
 clause-met o l m e n = rw (e, n)
 
 -- What the move comes to, as a relation.
-pub data Told (o : Obligation) (x : Step) : Move → Type 0 where
+pub data Told (o : Obligation) (x : Step) : Onward → Type 0 where
   ruled : {os : List Obligation} → Rule o x os → Told o x (onto os)
   barred : {k : ℕ} → Refuses o x k → Told o x (refuse k)
 
-told-onto : {o : Obligation} {x : Step} {m : Move} {os : List Obligation} → Told o x m → m ≡ onto os → Rule o x os
+told-onto : {o : Obligation} {x : Step} {m : Onward} {os : List Obligation} → Told o x m → m ≡ onto os → Rule o x os
 told-onto {o} {x} {os} (ruled {os = new} r) e =
     let same : new ≡ os = cc in
     subst (λ (l : List Obligation). Rule o x l) same r
 told-onto (barred r) e = never cc
 
-told-refuse : {o : Obligation} {x : Step} {m : Move} {k : ℕ} → Told o x m → m ≡ refuse k → Refuses o x k
+told-refuse : {o : Obligation} {x : Step} {m : Onward} {k : ℕ} → Told o x m → m ≡ refuse k → Refuses o x k
 told-refuse (ruled r) e = never cc
 told-refuse {o} {x} {k} (barred {k = j} r) e =
     let same : j ≡ k = cc in
     subst (λ (n : ℕ). Refuses o x n) same r
 
 -- A step that fits is never refused with 7.
-not-seven : {o : Obligation} {x : Step} {m : Move} → Judged o x m → m ≡ refuse 7 → ⊥
+not-seven : {o : Obligation} {x : Step} {m : Onward} → Answered o x m → m ≡ refuse 7 → ⊥
 not-seven (goes r) e = never cc
 not-seven (eight u) e = let z : _≡_ {A = ℕ} 8 7 = cc in omega arith
 not-seven (nine n b) e = let z : _≡_ {A = ℕ} 9 7 = cc in omega arith
 
-told-fit : {o : Obligation} {x : Step} {m : Move} → Fits o x → Judged o x m → Told o x m
+told-fit : {o : Obligation} {x : Step} {m : Onward} → Fits o x → Answered o x m → Told o x m
 told-fit f (goes r) = ruled r
 told-fit f (eight u) = barred (unnamed f u)
 told-fit f (nine n b) = barred (unbacked f n b)
 
-fitting-onto : {o : Obligation} {x : Step} {m : Move} {os : List Obligation} → Fitting o x m → m ≡ onto os → Fits o x
+fitting-onto : {o : Obligation} {x : Step} {m : Onward} {os : List Obligation} → Fitting o x m → m ≡ onto os → Fits o x
 fitting-onto (fit f) e = f
 fitting-onto unfit e = never cc
 
@@ -116,12 +116,12 @@ rule-fits {o} {x} r = fitting-onto (fits-or-seven x (o .sequent) (o .phase)) (ru
 pub told : (o : Obligation) (x : Step) → Told o x (stepOn x (o .sequent) (o .phase))
 told o x = go (stepOn x (o .sequent) (o .phase)) refl (fits-or-seven x (o .sequent) (o .phase))
   where
-    go : (m : Move) → stepOn x (o .sequent) (o .phase) ≡ m → Fitting o x m → Told o x m
+    go : (m : Onward) → stepOn x (o .sequent) (o .phase) ≡ m → Fitting o x m → Told o x m
     go m e (fit f) = told-fit f (rw e at (fitted f))
     go m e unfit = barred (misfits (λ f. not-seven (fitted f) e))
 
 -- Of one obligation and step, a refusal that the table allows is the one that the move comes to.
-told-refuses : {o : Obligation} {x : Step} {m : Move} {k : ℕ} → Refuses o x k → Told o x m → m ≡ refuse k
+told-refuses : {o : Obligation} {x : Step} {m : Onward} {k : ℕ} → Refuses o x k → Told o x m → m ≡ refuse k
 told-refuses (misfits n) (ruled r) = absurd (n (rule-fits r))
 told-refuses (misfits n) (barred (misfits l)) = refl
 told-refuses (misfits n) (barred (unnamed f u)) = absurd (n f)

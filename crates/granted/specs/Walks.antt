@@ -6,10 +6,10 @@ use mathlib.Core.Path.{_≡_, refl}
 use mathlib.Core.Bool.{Bool, true, false}
 use mathlib.Core.List.{List, _∷_, _++_}
 use lib.ListN.{length}
-use Rattle.scope.specs.Answer.{Answer, answer}
-use Rattle.scope.specs.Derivation.{Rule}
-use Rattle.scope.specs.Obligation.{Obligation, Step}
-use Rattle.scope.specs.Walk.{Move, limited, after, walk}
+use Rattle.scope.specs.Call.Answer.{Answer, answer}
+use Rattle.scope.specs.Logic.Derivation.{Rule}
+use Rattle.scope.specs.Logic.Obligation.{Obligation, Step}
+use Rattle.scope.specs.Logic.Walk.{Onward, limited, after, walk}
 use Rattle.granted.specs.Reasons.{Room, Refuses}
 use Rattle.granted.specs.Steps.{rule-step, refuses-step, Told, ruled, barred, told}
 
@@ -44,6 +44,6 @@ module _ (room : Room) (i : ℕ) (o : Obligation) (waiting : List Obligation) (x
       within {new} r true e = on r e (walk-on new r e)
       within {new} r false e = over r e (walk-over new r e)
 
-      go : {m : Move} → Told o x m → Turn room i o waiting x xs (walk room i (o ∷ waiting) (x ∷ xs))
+      go : {m : Onward} → Told o x m → Turn room i o waiting x xs (walk room i (o ∷ waiting) (x ∷ xs))
       go (ruled {os} r) = within r (room (length waiting) os) refl
       go (barred {k} r) = stop r (walk-stop k r)

@@ -1,5 +1,5 @@
 -- Document 01's number and place in the judge's answer, for each case of what it is made of.
-use Rattle.scope.specs.Answer as S
+use Rattle.scope.specs.Call.Answer as S
 use Rattle.tables.specs.declared.Checked.{Checked}
 use Rattle.tables.specs.declared.Checked.the-variants as checked
 use Rattle.machine.specs.declared.Walked.{Walked}

@@ -1,18 +1,18 @@
 -- The judge's answer by its two parts: a refusal of the checks is the answer, and else what the walk answers.
 use Prim.Native.Nat.{zero, suc}
 use mathlib.Core.Path.{_≡_, refl, sym, ap, _∙_}
-use Rattle.scope.specs.Answer as S
-use Rattle.scope.specs.Answer.{answer}
-use Rattle.scope.specs.Tables.{Lent, requestOf}
-use Rattle.scope.specs.Checked.{checked}
-use Rattle.scope.specs.Judge.{stepsAnswer, judge, else}
+use Rattle.scope.specs.Call.Answer as S
+use Rattle.scope.specs.Call.Answer.{answer}
+use Rattle.scope.specs.Call.Tables.{Lent, requestOf}
+use Rattle.scope.specs.Call.Checked.{checked}
+use Rattle.scope.specs.Call.Judge.{stepsAnswer, judge, else}
 use Rattle.counts.specs.declared.Refusal.{Refusal}
 use Rattle.tables.specs.declared.Checked.the-variants.{Fine, Refused}
 use Rattle.tables.specs.Met.{checkedOf}
 use Rattle.machine.specs.declared.Walked.{Walked}
 use Rattle.machine.specs.declared.Walked.the-variants as walked
 use Rattle.machine.specs.Machine.{ran}
-use Rattle.scope.specs.Tests.{never}
+use Rattle.scope.specs.Tools.Tests.{never}
 use Rattle.trip.specs.Trip.{unmet}
 use Rattle.walks.specs.Ran.{walkedAnswer}
 use Rattle.walks.specs.Simulation.{ran-walks}

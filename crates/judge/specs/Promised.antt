@@ -1,11 +1,11 @@
 -- What a caller may conclude from the judge's answer: refusal 0 exactly where tables and counts pass and the steps are a derivation within the
 -- limits; and then the goal holds in every finite model, at each world where the policy holds.
 use mathlib.Core.Path.{_≡_, refl, sym, ap, _∙_}
-use Rattle.scope.specs.Answer as S
-use Rattle.scope.specs.Answer.{answer}
-use Rattle.scope.specs.Tables.{Lent, requestOf}
-use Rattle.scope.specs.Judge.{policyOf, goalOf, judge}
-use Rattle.scope.specs.Models.{Entailed}
+use Rattle.scope.specs.Call.Answer as S
+use Rattle.scope.specs.Call.Answer.{answer}
+use Rattle.scope.specs.Call.Tables.{Lent, requestOf}
+use Rattle.scope.specs.Call.Judge.{policyOf, goalOf, judge}
+use Rattle.scope.specs.Logic.Models.{Entailed}
 use Rattle.demands.specs.Judged.{Grants, judge-allowed, allowed-grants, judge-grants, judge-entails}
 use Rattle.judge.specs.declared.Answer.{Answer}
 use Rattle.judge.specs.Answers.{answerOf}

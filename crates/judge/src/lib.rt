@@ -1,6 +1,6 @@
 // The judge: the checks over tables and counts, and then the answers about steps. It writes nowhere.
 ghost use mathlib.Core.Path.{_≡_};
-ghost use Rattle.scope.specs.Judge.{judge as judge'};
+ghost use Rattle.scope.specs.Call.Judge.{judge as judge'};
 ghost use Rattle.tables.specs.Met.{lentWith};
 ghost use Rattle.judge.specs.Answers.{answerOf, refusalAnswer, walkedTo};
 use counts::Counts;

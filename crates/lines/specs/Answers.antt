@@ -6,9 +6,9 @@ use mathlib.Core.List.{List, [], _∷_}
 use mathlib.Core.Bool.{false}
 use mathlib.Core.Option.{Option, none, some}
 use lib.ListN.{length, getD, drop, drop-of-length-le}
-use Rattle.scope.specs.Request.{Row}
-use Rattle.scope.specs.Form.{both}
-use Rattle.scope.specs.Number.{isDigit, digits, number}
+use Rattle.scope.specs.File.Request.{Row}
+use Rattle.scope.specs.Logic.Form.{both}
+use Rattle.scope.specs.File.Number.{isDigit, digits, number}
 use Rattle.lines.specs.Stop.{mostDigits, digitsUpTo, numberStop, counts-full, counts-none, digits-stops, number-long, number-bad, number-good}
 use Rattle.lines.specs.declared.Number.{Number}
 use Rattle.lines.specs.declared.Number.the-variants as N

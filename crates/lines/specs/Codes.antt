@@ -10,9 +10,9 @@ use lib.ListN.{length, take, drop, getD, drop-of-length-le}
 use lib.Pow.{pow-add, pow-lt}
 use lib.Seq.{drop-cons}
 use borrow.Author.Tests.{ltb-true, ltb-false, lt-ltb, le-ltb, eqb-true, eq-eqb, ne-eqb}
-use Rattle.scope.specs.Tests.{never}
-use Rattle.scope.specs.Form.{both}
-use Rattle.scope.specs.Kinds.{same}
+use Rattle.scope.specs.Tools.Tests.{never}
+use Rattle.scope.specs.Logic.Form.{both}
+use Rattle.scope.specs.File.Kinds.{same}
 use Rattle.lines.specs.Items.{same-lengths, same-here}
 use Rattle.lines.specs.Words.{codeFrom, codeOf}
 

@@ -9,8 +9,8 @@ use lib.Dec.{eqb}
 use lib.ListN.{length, take, drop, getD, drop-of-length-le}
 use lib.Seq.{drop-cons}
 use borrow.Author.Tests.{eq-eqb, ne-eqb}
-use Rattle.scope.specs.Form.{both}
-use Rattle.scope.specs.Kinds.{same, items, ontoFirst}
+use Rattle.scope.specs.Logic.Form.{both}
+use Rattle.scope.specs.File.Kinds.{same, items, ontoFirst}
 use Rattle.lines.specs.Parts.{upTo}
 
 -- A space that is met ends the first item; where there is none, the whole text is the only one.

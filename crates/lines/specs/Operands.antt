@@ -8,10 +8,10 @@ use mathlib.Core.Option.{Option, none, some}
 use lib.Dec.{ltb, eqb}
 use lib.ListN.{length, take}
 use borrow.Author.Tests.{ltb-true, ltb-false, eqb-true, ne-eqb}
-use Rattle.scope.specs.Tests.{never}
-use Rattle.scope.specs.Request.{Row}
-use Rattle.scope.specs.Number.{isDigit, digits, number}
-use Rattle.scope.specs.Kinds.{items, numbers, ontoNumbers}
+use Rattle.scope.specs.Tools.Tests.{never}
+use Rattle.scope.specs.File.Request.{Row}
+use Rattle.scope.specs.File.Number.{isDigit, digits, number}
+use Rattle.scope.specs.File.Kinds.{items, numbers, ontoNumbers}
 use Rattle.lines.specs.Parts.{upTo}
 use Rattle.lines.specs.Stop.{digit-low, number-bad}
 use Rattle.lines.specs.Words.{laterItems, wantedRow}

@@ -11,9 +11,9 @@ use lib.Dec.{eqb}
 use lib.ListN.{length, take, drop, getD, length-drop, drop-of-length-le}
 use lib.Seq.{drop-cons, take-all, take-nil}
 use borrow.Author.Tests.{eq-eqb, ne-eqb}
-use Rattle.scope.specs.Form.{both}
-use Rattle.scope.specs.Line.{Line, Cut, parts, uncut, cut, cutAfter, strip, valued, judged, placed, lineOf, line}
-use Rattle.scope.specs.Kinds.{same}
+use Rattle.scope.specs.Logic.Form.{both}
+use Rattle.scope.specs.File.Line.{Line, Cut, parts, uncut, cut, cutAfter, strip, valued, shapedAs, placed, lineOf, line}
+use Rattle.scope.specs.File.Kinds.{same}
 
 -- How many numbers, bytes of a text or codes of words, stand before the first b: all, where there is none.
 unfoldable pub upTo : ℕ → List ℕ → ℕ
@@ -45,19 +45,19 @@ restOf s = lineRest (cut 10 s)
 
 -- A line is its value and the rest, for every shape that no empty value has.
 value-parts : {A : Type 0} (l : Line A) (refusal : A → ℕ) (o : Option (List ℕ)) → l .shape .thing [] ≡ none
-    → valued l refusal o ≡ judged refusal (l .shape .thing (valueIn o))
-unfolding valued valueIn judged
+    → valued l refusal o ≡ shapedAs refusal (l .shape .thing (valueIn o))
+unfolding valued valueIn shapedAs
 value-parts l refusal none e = rw e refl
 value-parts l refusal (some v) e = refl
 
 cut-parts : {A : Type 0} (l : Line A) (refusal : A → ℕ) (i : ℕ) (c : Cut) → l .shape .thing [] ≡ none
-    → lineOf l refusal i c ≡ placed i (judged refusal (l .shape .thing (lineValue (l .key) c))) (lineRest c)
-unfolding lineOf placed judged lineValue lineRest
+    → lineOf l refusal i c ≡ placed i (shapedAs refusal (l .shape .thing (lineValue (l .key) c))) (lineRest c)
+unfolding lineOf placed shapedAs lineValue lineRest
 cut-parts l refusal i uncut e = rw e refl
 cut-parts l refusal i (parts t rest) e = ap (λ v. placed i v rest) (value-parts l refusal (strip (l .key) t) e)
 
 pub line-parts : {A : Type 0} (l : Line A) (refusal : A → ℕ) (i : ℕ) (s : List ℕ) → l .shape .thing [] ≡ none
-    → line l refusal i s ≡ placed i (judged refusal (l .shape .thing (valueOf (l .key) s))) (restOf s)
+    → line l refusal i s ≡ placed i (shapedAs refusal (l .shape .thing (valueOf (l .key) s))) (restOf s)
 unfolding line valueOf restOf
 line-parts l refusal i s e = cut-parts l refusal i (cut 10 s) e
 

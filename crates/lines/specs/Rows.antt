@@ -8,9 +8,9 @@ use mathlib.Core.Option.{Option, none, some}
 use lib.Dec.{ltb, leb, eqb}
 use lib.ListN.{length, take, getD, List·getD-map}
 use borrow.Author.Tests.{leb-true, ltb-true}
-use Rattle.scope.specs.Tests.{never}
-use Rattle.scope.specs.Form.{both}
-use Rattle.scope.specs.Kinds.{Kind, kind, kindIn, kindFrom, same, items, numbers, kindRow, itemsRow, rowIn, formKinds, stepKinds}
+use Rattle.scope.specs.Tools.Tests.{never}
+use Rattle.scope.specs.Logic.Form.{both}
+use Rattle.scope.specs.File.Kinds.{Kind, kind, kindIn, kindFrom, same, items, numbers, kindRow, itemsRow, rowIn, formKinds, stepKinds}
 use Rattle.lines.specs.Parts.{upTo}
 use Rattle.lines.specs.Words.{codeOf, laterItems, wantedRow}
 use Rattle.lines.specs.Codes.{AreBytes, bytes-front, same-codes}

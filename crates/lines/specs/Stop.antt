@@ -11,8 +11,8 @@ use lib.Dec.{leb, eqb}
 use lib.ListN.{length, drop, getD}
 use lib.Seq.{drop-cons}
 use borrow.Author.Tests.{le-leb, lt-leb, eq-eqb, ne-eqb}
-use Rattle.scope.specs.Form.{both}
-use Rattle.scope.specs.Number.{isDigit, digits, leadingZero, number}
+use Rattle.scope.specs.Logic.Form.{both}
+use Rattle.scope.specs.File.Number.{isDigit, digits, leadingZero, number}
 
 -- 'A number is 1 to 5 digits, no leading zero but in 0 itself': the most digits of a number with this first byte.
 unfoldable pub mostDigits : List ℕ → ℕ

@@ -9,8 +9,8 @@ use lib.Dec.{ltb}
 use lib.ListN.{length, take, drop, length-drop}
 use lib.Seq.{length-take-le, take-all, take-take}
 use borrow.Author.Tests.{ltb-true, ltb-false}
-use Rattle.scope.specs.Line.{parts, uncut, cut}
-use Rattle.scope.specs.Kinds.{same, items}
+use Rattle.scope.specs.File.Line.{parts, uncut, cut}
+use Rattle.scope.specs.File.Kinds.{same, items}
 use Rattle.lines.specs.Parts.{upTo, valueIn, lineValue, valueOf, lineRest, restOf, cut-found, cut-none, strip-is, drop-take, tail-part}
 use Rattle.lines.specs.Items.{same-lengths, items-more, items-last}
 use Rattle.lines.specs.Words.{laterItems}

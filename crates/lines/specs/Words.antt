@@ -5,8 +5,8 @@ use mathlib.Core.Bool.{cond}
 use mathlib.Core.Option.{Option, none, some}
 use lib.Dec.{ltb, eqb}
 use lib.ListN.{length}
-use Rattle.scope.specs.Request.{Row}
-use Rattle.scope.specs.Kinds.{rowOf}
+use Rattle.scope.specs.File.Request.{Row}
+use Rattle.scope.specs.File.Kinds.{rowOf}
 
 -- Bytes as digits to the base 256 behind those of code v.
 unfoldable pub codeFrom : ℕ → List ℕ → ℕ

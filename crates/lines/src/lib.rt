@@ -2,8 +2,8 @@
 // the numbers and kind words of a value.
 ghost use mathlib.Core.Path.{_≡_};
 ghost use Prim.Native.Nat.{_≤_};
-ghost use Rattle.scope.specs.Number.{number};
-ghost use Rattle.scope.specs.Kinds.{same, items, numbers, formKinds, stepKinds, rowIn};
+ghost use Rattle.scope.specs.File.Number.{number};
+ghost use Rattle.scope.specs.File.Kinds.{same, items, numbers, formKinds, stepKinds, rowIn};
 ghost use Rattle.lines.specs.Parts.{upTo, valueOf, restOf};
 ghost use Rattle.lines.specs.Stop.{mostDigits, numberStop};
 ghost use Rattle.lines.specs.Words.{codeOf, laterItems, wantedRow};

@@ -2,8 +2,8 @@
 use moves::Phase;
 
 mod begin;
+mod blocks;
 mod changes;
-mod tables;
 pub mod walking;
 
 // Chunks of an obligation, one place for each.

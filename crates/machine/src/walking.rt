@@ -9,10 +9,10 @@ use crate::Obligation;
 use crate::Refusal;
 use crate::Walked;
 use crate::begin;
+use crate::blocks;
+use crate::blocks::ENTRIES;
+use crate::blocks::OPENED;
 use crate::changes;
-use crate::tables;
-use crate::tables::ENTRIES;
-use crate::tables::OPENED;
 use facts::ROWS;
 use facts::Row;
 use moves::Judged;
@@ -122,7 +122,7 @@ fn run_steps(
         }
         let place = opened - 1;
         let o = stack[place as usize];
-        let top = tables::top_chunk(&chunks, place, o);
+        let top = blocks::top_chunk(&chunks, place, o);
         let j = judge_now(forms, rows, clauses, ats, steps, i, o, top, opened);
         let Judged::Fits(m) = j else {
             return refused_at(number_in(j), i);
@@ -130,7 +130,7 @@ fn run_steps(
         let made = changes::change_of(m, o, opened);
         let more = made.opened;
         let next = stack[changes::less_by(opened, 2) as usize];
-        tables::move_tables(rows, &mut chunks, &mut saved, m, o, next, opened, more);
+        blocks::move_tables(rows, &mut chunks, &mut saved, m, o, next, opened, more);
         put_clause(clauses, ats, o, top);
         let upper = made.upper;
         let lower = made.lower;

@@ -4,7 +4,7 @@ use Prim.Native.Nat.{ℕ}
 use mathlib.Core.Bool.{Bool, true, false}
 use mathlib.Core.List.{List}
 use lib.Dec.{eqb, leb}
-use Rattle.scope.specs.Facts as Fact
+use Rattle.scope.specs.Logic.Facts as Fact
 use Rattle.scope.specs.Limits.{mostWorlds, mostClauses, mostOpen, mostChunks}
 use Rattle.facts.specs.Rows.{told}
 use Rattle.steps.specs.declared.World.{World}

@@ -1,8 +1,8 @@
 -- What the reader answers, as one record: the refusal and its place, and the counts and the goal, which are 0 after a refusal.
 use mathlib.Core.Path.{_≡_, refl}
-use Rattle.scope.specs.Answer.{refusalIn, placeIn}
-use Rattle.scope.specs.Reader.{Outcome, read, refused}
-use Rattle.scope.specs.Calls.{outcomeAnswer, noRequest, requestIn}
+use Rattle.scope.specs.Call.Answer.{refusalIn, placeIn}
+use Rattle.scope.specs.File.Reader.{Outcome, read, refused}
+use Rattle.scope.specs.Call.Calls.{outcomeAnswer, noRequest, requestIn}
 use Rattle.reader.specs.declared.Reading.{Reading}
 use Rattle.reader.specs.declared.Reading.the-variants as Reading
 use Rattle.reader.specs.Answers.{countsOf, readingOf}

@@ -2,8 +2,8 @@
 // them. A slice is a pointer and the count of its elements. None relies on a check made before.
 ghost use mathlib.Core.Path.{_≡_};
 ghost use lib.ListN.{length};
-ghost use Rattle.scope.specs.Calls.{reading, formTableAfter, lineTableAfter, stepTableAfter, writing, outputAfter};
-ghost use Rattle.scope.specs.Judge.{judge as judge', gate as gate'};
+ghost use Rattle.scope.specs.Call.Calls.{reading, formTableAfter, lineTableAfter, stepTableAfter, writing, outputAfter};
+ghost use Rattle.scope.specs.Call.Judge.{judge as judge', gate as gate'};
 ghost use Rattle.tables.specs.Met.{lentWith};
 ghost use Rattle.writer.specs.Writing.{writingOf};
 ghost use Rattle.judge.specs.Answers.{answerOf};

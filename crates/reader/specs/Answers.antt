@@ -3,11 +3,11 @@ use Prim.Native.Nat.{ℕ, _-_}
 use mathlib.Core.Path.{_≡_, refl}
 use mathlib.Core.List.{List}
 use lib.ListN.{length}
-use Rattle.scope.specs.Request.{Row, Request}
-use Rattle.scope.specs.Line.{Value, val, out, Read, ok, bad}
-use Rattle.scope.specs.Reader.{Outcome, read, refused}
-use Rattle.scope.specs.Answer.{Answer, answer}
-use Rattle.scope.specs.Calls.{outcomeAnswer, noRequest, requestIn}
+use Rattle.scope.specs.File.Request.{Row, Request}
+use Rattle.scope.specs.File.Line.{Value, val, out, Read, ok, bad}
+use Rattle.scope.specs.File.Reader.{Outcome, read, refused}
+use Rattle.scope.specs.Call.Answer.{Answer, answer}
+use Rattle.scope.specs.Call.Calls.{outcomeAnswer, noRequest, requestIn}
 use Rattle.counts.specs.declared.Counts.{Counts}
 use Rattle.counts.specs.declared.Refusal.{Refusal}
 use Rattle.steps.specs.Steps.{stepFrom}
@@ -93,13 +93,13 @@ unfoldable pub formulasOf : ℕ → Read Formulas → Head
 formulasOf n (ok f rest) = Head.Read (f .principals) (f .atoms) (length (f .forms)) (n - length rest)
 formulasOf n (bad k i) = Head.Refused (refusalIs k i)
 
-unfoldable pub policyOf : ℕ → Read PolicyRead → Policy
-policyOf n (ok p rest) = Policy.Read (length (p .lines)) (p .goal) (n - length rest)
-policyOf n (bad k i) = Policy.Refused (refusalIs k i)
+unfoldable pub policySection : ℕ → Read PolicyRead → Policy
+policySection n (ok p rest) = Policy.Read (length (p .lines)) (p .goal) (n - length rest)
+policySection n (bad k i) = Policy.Refused (refusalIs k i)
 
-unfoldable pub stepsOf : ℕ → Read (List Row) → Steps
-stepsOf n (ok rows rest) = Steps.Read (length rows) (n - length rest)
-stepsOf n (bad k i) = Steps.Refused (refusalIs k i)
+unfoldable pub stepSection : ℕ → Read (List Row) → Steps
+stepSection n (ok rows rest) = Steps.Read (length rows) (n - length rest)
+stepSection n (bad k i) = Steps.Refused (refusalIs k i)
 
 -- The refusal in an answer; none where the answer is no refusal.
 abbrev pub numberRefusal : NumberLine → ℕ

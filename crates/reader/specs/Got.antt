@@ -3,14 +3,14 @@ use Prim.Native.Nat.{ℕ, _-_}
 use mathlib.Core.Path.{_≡_, refl, ap, _∙_}
 use mathlib.Core.List.{List}
 use lib.ListN.{length, take, drop}
-use Rattle.scope.specs.Tests.{never}
-use Rattle.scope.specs.Request.{Row}
-use Rattle.scope.specs.Line.{Read, ok, bad, Reader}
-use Rattle.scope.specs.Tables.{Entry, table}
+use Rattle.scope.specs.Tools.Tests.{never}
+use Rattle.scope.specs.File.Request.{Row}
+use Rattle.scope.specs.File.Line.{Read, ok, bad, Reader}
+use Rattle.scope.specs.Call.Tables.{Entry, table}
 use Rattle.lines.specs.Parts.{tail-part}
 use Rattle.counts.specs.declared.Refusal.{Refusal}
 use Rattle.reader.specs.Sections.{Counted, Formulas, PolicyRead}
-use Rattle.reader.specs.Answers.{sectionOf, headOf, formulasOf, policyOf, stepsOf}
+use Rattle.reader.specs.Answers.{sectionOf, headOf, formulasOf, policySection, stepSection}
 use Rattle.reader.specs.Many.{Ends, tail-drop}
 use Rattle.reader.specs.declared.Section.the-variants as Section
 use Rattle.reader.specs.declared.Head.{Head}
@@ -102,15 +102,15 @@ pub record Policy-got (n : ℕ) (r : Read PolicyRead) (c g at : ℕ) : Type 0 wh
   pub count : c ≡ length lines
   pub place : at ≡ n - length rest
 
-pub policy-got : (n : ℕ) (r : Read PolicyRead) (c g at : ℕ) → policyOf n r ≡ Policy.Read c g at → Policy-got n r c g at
-unfolding policyOf
+pub policy-got : (n : ℕ) (r : Read PolicyRead) (c g at : ℕ) → policySection n r ≡ Policy.Read c g at → Policy-got n r c g at
+unfolding policySection
 policy-got n (ok p rest) c g at e =
     let x : p .goal ≡ g = cc in
     record { lines = p .lines; rest = rest; is = λ i. ok record { lines = p .lines; goal = x i } rest; count = cc; place = cc }
 policy-got n (bad k i) c g at e = never cc
 
-pub policy-lost : (n : ℕ) (r : Read PolicyRead) (x : Refusal) → policyOf n r ≡ Policy.Refused x → r ≡ bad (x .number) (x .place)
-unfolding policyOf
+pub policy-lost : (n : ℕ) (r : Read PolicyRead) (x : Refusal) → policySection n r ≡ Policy.Refused x → r ≡ bad (x .number) (x .place)
+unfolding policySection
 policy-lost n (ok p rest) x e = never cc
 policy-lost n (bad k i) x e =
     let f : record { number = k; place = i } ≡ x = cc in
@@ -123,13 +123,13 @@ pub record Steps-got (n : ℕ) (r : Read (List Row)) (c at : ℕ) : Type 0 where
   pub count : c ≡ length rows
   pub place : at ≡ n - length rest
 
-pub steps-got : (n : ℕ) (r : Read (List Row)) (c at : ℕ) → stepsOf n r ≡ Steps.Read c at → Steps-got n r c at
-unfolding stepsOf
+pub steps-got : (n : ℕ) (r : Read (List Row)) (c at : ℕ) → stepSection n r ≡ Steps.Read c at → Steps-got n r c at
+unfolding stepSection
 steps-got n (ok rows rest) c at e = record { rows = rows; rest = rest; is = refl; count = cc; place = cc }
 steps-got n (bad k i) c at e = never cc
 
-pub steps-lost : (n : ℕ) (r : Read (List Row)) (x : Refusal) → stepsOf n r ≡ Steps.Refused x → r ≡ bad (x .number) (x .place)
-unfolding stepsOf
+pub steps-lost : (n : ℕ) (r : Read (List Row)) (x : Refusal) → stepSection n r ≡ Steps.Refused x → r ≡ bad (x .number) (x .place)
+unfolding stepSection
 steps-lost n (ok rows rest) x e = never cc
 steps-lost n (bad k i) x e =
     let f : record { number = k; place = i } ≡ x = cc in
@@ -148,14 +148,14 @@ module _ {X : Formulas → List ℕ → Type 0} (n : ℕ) (r : Read Formulas) (x
   formulas-refused h d = (d ∙ rw e refl, λ f rest g. never-both r (x .number) (x .place) f rest e g)
 
 module _ {X : PolicyRead → List ℕ → Type 0} (n : ℕ) (r : Read PolicyRead) (x : Refusal) (e : r ≡ bad (x .number) (x .place)) where
-  pub policy-refused : (y : Refusal) → y ≡ x → (Policy.Refused y ≡ policyOf n r) × ((p : PolicyRead) (rest : List ℕ) → r ≡ ok p rest → X p rest)
-  unfolding policyOf
+  pub policy-refused : (y : Refusal) → y ≡ x → (Policy.Refused y ≡ policySection n r) × ((p : PolicyRead) (rest : List ℕ) → r ≡ ok p rest → X p rest)
+  unfolding policySection
   policy-refused y d = (ap Policy.Refused d ∙ rw e refl, λ p rest g. never-both r (x .number) (x .place) p rest e g)
 
 module _ {X : List Row → List ℕ → Type 0} (n : ℕ) (r : Read (List Row)) (x : Refusal) (e : r ≡ bad (x .number) (x .place)) where
-  pub steps-refused : (y : Refusal) → y ≡ x → (Steps.Refused y ≡ stepsOf n r)
+  pub steps-refused : (y : Refusal) → y ≡ x → (Steps.Refused y ≡ stepSection n r)
       × ((rows : List Row) (rest : List ℕ) → r ≡ ok rows rest → X rows rest)
-  unfolding stepsOf
+  unfolding stepSection
   steps-refused y d = (ap Steps.Refused d ∙ rw e refl, λ rows rest g. never-both r (x .number) (x .place) rows rest e g)
 
 pub formulas-read : (n : ℕ) (r : Read Formulas) (p a f at : ℕ) (forms : List Row) (rest : List ℕ) → r
@@ -165,11 +165,11 @@ unfolding formulasOf
 formulas-read n r p a f at forms rest e c is = rw (e, c, is) refl
 
 pub policy-read : (n : ℕ) (r : Read PolicyRead) (c g at : ℕ) (lines rest : List ℕ) → r ≡ ok record { lines = lines; goal = g } rest
-    → c ≡ length lines → at ≡ n - length rest → Policy.Read c g at ≡ policyOf n r
-unfolding policyOf
+    → c ≡ length lines → at ≡ n - length rest → Policy.Read c g at ≡ policySection n r
+unfolding policySection
 policy-read n r c g at lines rest e k is = rw (e, k, is) refl
 
 pub steps-read : (n : ℕ) (r : Read (List Row)) (c at : ℕ) (rows : List Row) (rest : List ℕ) → r ≡ ok rows rest
-    → c ≡ length rows → at ≡ n - length rest → Steps.Read c at ≡ stepsOf n r
-unfolding stepsOf
+    → c ≡ length rows → at ≡ n - length rest → Steps.Read c at ≡ stepSection n r
+unfolding stepSection
 steps-read n r c at rows rest e k is = rw (e, k, is) refl

@@ -7,15 +7,15 @@ use mathlib.Core.Bool.{Bool, true, false}
 use lib.Dec.{ltb}
 use lib.ListN.{length, getD}
 use borrow.Author.Tests.{ltb-true}
-use Rattle.scope.specs.Bytes.{bytes}
-use Rattle.scope.specs.Number.{number}
-use Rattle.scope.specs.Request.{Row, goalClass, policyClass}
-use Rattle.scope.specs.Line.{Read, ok, bad, judged, line, after, _>>=_, many}
+use Rattle.scope.specs.File.Bytes.{bytes}
+use Rattle.scope.specs.File.Number.{number}
+use Rattle.scope.specs.File.Request.{Row, goalClass, policyClass}
+use Rattle.scope.specs.File.Line.{Read, ok, bad, shapedAs, line, andThen, _>>=_, many}
 use Rattle.scope.specs.Limits.{mostFormulas, clausesAt, clauseAt, goalAt, stepsAt}
-use Rattle.scope.specs.Refusals.{demand, countRefusal, clausesRefusal, stepsRefusal, clauseRefusal, goalRefusal}
-use Rattle.scope.specs.Text.{clausesLine, clauseLine, goalLine, stepsLine}
-use Rattle.scope.specs.Tables.{formEntry, lineEntry, stepEntry, table, unpack}
-use Rattle.scope.specs.Reader.{formItem, clauseItem, stepItem}
+use Rattle.scope.specs.File.Refusals.{demand, countRefusal, clausesRefusal, stepsRefusal, clauseRefusal, goalRefusal}
+use Rattle.scope.specs.File.Text.{clausesLine, clauseLine, goalLine, stepsLine}
+use Rattle.scope.specs.Call.Tables.{formEntry, lineEntry, stepEntry, table, unpack}
+use Rattle.scope.specs.File.Reader.{formItem, clauseItem, stepItem}
 use Rattle.classes.specs.Class.{goalIn, policyIn, classTable}
 use Rattle.classes.specs.Rows.{unpack-length}
 use Rattle.classes.specs.Laws.{goal-at, policy-at}
@@ -23,7 +23,7 @@ use Rattle.lines.specs.Parts.{valueOf, restOf}
 use Rattle.counts.specs.declared.Refusal.{Refusal}
 use Rattle.refusals.specs.Rows.{classRefusal}
 use Rattle.reader.specs.Sections.{Counted, Formulas, PolicyRead, headPart, formulasPart, policyPart, stepsPart, classedItem}
-use Rattle.reader.specs.Answers.{numberLineOf, sectionOf, headOf, formulasOf, policyOf, stepsOf}
+use Rattle.reader.specs.Answers.{numberLineOf, sectionOf, headOf, formulasOf, policySection, stepSection}
 use Rattle.reader.specs.Lines.{number-ok, number-bad}
 use Rattle.reader.specs.Many.{Ends, line-ends, many-ends, many-length, tail-length}
 use Rattle.reader.specs.Turns.{rest-short}
@@ -48,19 +48,19 @@ many-clause-ends cs n f = many-ends (classedItem cs n) f [] (λ b. line-ends _ _
 -- The formulas: the first four lines, then the `form=` lines.
 module _ (s : List ℕ) where
   formulas-1 : (k i : ℕ) → headPart s ≡ bad k i → formulasPart s ≡ bad k i
-  unfolding formulasPart _>>=_ after
+  unfolding formulasPart _>>=_ andThen
   formulas-1 k i e = rw e refl
 
   formulas-2 : (h : Counted) (t : List ℕ) (k i : ℕ) → headPart s ≡ ok h t → many (formItem (h .principals) (h .atoms))
       (h .formulas) [] t ≡ bad k i
       → formulasPart s ≡ bad k i
-  unfolding formulasPart _>>=_ after
+  unfolding formulasPart _>>=_ andThen
   formulas-2 h t k i e f = rw e (rw f refl)
 
   formulas-3 : (h : Counted) (t : List ℕ) (forms : List Row) (rest : List ℕ) → headPart s ≡ ok h t
       → many (formItem (h .principals) (h .atoms)) (h .formulas) [] t ≡ ok forms rest
       → formulasPart s ≡ ok record { principals = h .principals; atoms = h .atoms; forms = forms } rest
-  unfolding formulasPart _>>=_ after
+  unfolding formulasPart _>>=_ andThen
   formulas-3 h t forms rest e f = rw e (rw f refl)
 
   pub formulas-stopped : (x : Refusal) → headOf (length s) (headPart s) ≡ Head.Refused x → formulasPart s ≡ bad (x .number) (x .place)
@@ -164,26 +164,26 @@ module _ (t : List ℕ) (n : ℕ) (small : n ≤ mostFormulas) where
 -- The policy: a count, that many `clause=` lines, the goal.
 module _ (forms : List Row) (s : List ℕ) where
   policy-1 : (k i : ℕ) → line clausesLine clausesRefusal (clausesAt (length forms)) s ≡ bad k i → policyPart forms s ≡ bad k i
-  unfolding policyPart _>>=_ after
+  unfolding policyPart _>>=_ andThen
   policy-1 k i e = rw e refl
 
   policy-2 : (c : ℕ) (t : List ℕ) (k i : ℕ) → line clausesLine clausesRefusal (clausesAt (length forms)) s ≡ ok c t → many
       (clauseItem forms) c [] t ≡ bad k i
       → policyPart forms s ≡ bad k i
-  unfolding policyPart _>>=_ after
+  unfolding policyPart _>>=_ andThen
   policy-2 c t k i e f = rw e (rw f refl)
 
   policy-3 : (c : ℕ) (t : List ℕ) (lines u : List ℕ) (k i : ℕ) → line clausesLine clausesRefusal (clausesAt (length forms)) s ≡ ok c t
       → many (clauseItem forms) c [] t ≡ ok lines u
       → line goalLine (goalRefusal forms) (goalAt (length forms) (length lines)) u ≡ bad k i → policyPart forms s ≡ bad k i
-  unfolding policyPart _>>=_ after
+  unfolding policyPart _>>=_ andThen
   policy-3 c t lines u k i e f g = rw e (rw f (rw g refl))
 
   policy-4 : (c : ℕ) (t : List ℕ) (lines u : List ℕ) (goal : ℕ) (rest : List ℕ) → line clausesLine clausesRefusal
       (clausesAt (length forms)) s ≡ ok c t → many (clauseItem forms) c [] t ≡ ok lines u
       → line goalLine (goalRefusal forms) (goalAt (length forms) (length lines)) u ≡ ok goal rest → policyPart forms s
       ≡ ok record { lines = lines; goal = goal } rest
-  unfolding policyPart _>>=_ after
+  unfolding policyPart _>>=_ andThen
   policy-4 c t lines u goal rest e f g = rw e (rw f (rw g refl))
 
 -- The formulas in a table.
@@ -191,7 +191,7 @@ abbrev rows : List ℕ → ℕ → List Row
 rows numbers n = unpack formEntry n numbers
 
 pub clauses-stopped : (numbers : List ℕ) (n : ℕ) (s : List ℕ) (k : ℕ)
-    → numberLineOf (judged (countRefusal 0 128) (number (valueOf (bytes "clauses=") s))) ≡ NumberLine.Refused k
+    → numberLineOf (shapedAs (countRefusal 0 128) (number (valueOf (bytes "clauses=") s))) ≡ NumberLine.Refused k
     → policyPart (unpack formEntry n numbers) s ≡ bad k (5 + n)
 clauses-stopped numbers n s k e =
     policy-1 (rows numbers n) s k (5 + n)
@@ -202,7 +202,7 @@ clauses-stopped numbers n s k e =
 pub record Clauses-kept (numbers : List ℕ) (n : ℕ) (s : List ℕ) : Type 0 where
   pub small : n ≤ mostFormulas
   pub count : ℕ
-  pub counted : numberLineOf (judged (countRefusal 0 128) (number (valueOf (bytes "clauses=") s))) ≡ NumberLine.Number count
+  pub counted : numberLineOf (shapedAs (countRefusal 0 128) (number (valueOf (bytes "clauses=") s))) ≡ NumberLine.Number count
   pub rest : List ℕ
   pub behind : rest ≡ restOf s
   pub classes : List ℕ
@@ -236,14 +236,14 @@ module _ {numbers : List ℕ} {n : ℕ} {s : List ℕ} (k : Clauses-kept numbers
     many-lines = many-length (classedItem (k .classes) n) (k .count) [] (k .rest) (linesGot .things) (linesGot .rest) (linesGot .is)
 
     abbrev goalAnswer : List ℕ → NumberLine
-    goalAnswer t = numberLineOf (judged (classRefusal goalIn (k .classes) n) (number (valueOf (bytes "goal=") t)))
+    goalAnswer t = numberLineOf (shapedAs (classRefusal goalIn (k .classes) n) (number (valueOf (bytes "goal=") t)))
 
     -- The goal's line as the definition asks for it.
     goal-asked : (a : NumberLine) → goalAnswer (partFrom (m .at) (k .rest)) ≡ a
-        → numberLineOf (judged (goalRefusal (rows numbers n)) (number (valueOf (bytes "goal=") (linesGot .rest)))) ≡ a
+        → numberLineOf (shapedAs (goalRefusal (rows numbers n)) (number (valueOf (bytes "goal=") (linesGot .rest)))) ≡ a
     goal-asked a e =
         sym (λ i. numberLineOf
-        (judged (goal-test numbers n (k .small) (k .classes) (k .tabled) i) (number (valueOf (bytes "goal=") (third i))))) ∙ e
+        (shapedAs (goal-test numbers n (k .small) (k .classes) (k .tabled) i) (number (valueOf (bytes "goal=") (third i))))) ∙ e
 
     pub lines-place : m .at ≤ length (k .rest)
     lines-place = omega (arith, linesGot .place)
@@ -276,7 +276,7 @@ module _ {numbers : List ℕ} {n : ℕ} {s : List ℕ} (k : Clauses-kept numbers
           (number-ok "goal=" (goalRefusal (rows numbers n)) (goalAt (length (rows numbers n)) (length (linesGot .things))) (linesGot .rest) rest goal
           goal-behind (goal-asked (NumberLine.Number goal) e))
 
-      pub policy-joined : (Policy.Read (k .count) goal (length s - length rest) ≡ policyOf (length s) (policyPart (unpack formEntry n numbers) s))
+      pub policy-joined : (Policy.Read (k .count) goal (length s - length rest) ≡ policySection (length s) (policyPart (unpack formEntry n numbers) s))
           ×
           ((p : PolicyRead) (over : List ℕ) → policyPart (unpack formEntry n numbers) s ≡ ok p over → m .numbers ≡ table lineEntry (m .len)
           (p .lines))
@@ -290,22 +290,22 @@ module _ {numbers : List ℕ} {n : ℕ} {s : List ℕ} (k : Clauses-kept numbers
 -- The steps: a count, that many `step=` lines.
 module _ (formulas clauses : ℕ) (s : List ℕ) where
   steps-1 : (k i : ℕ) → line stepsLine stepsRefusal (stepsAt formulas clauses) s ≡ bad k i → stepsPart formulas clauses s ≡ bad k i
-  unfolding stepsPart _>>=_ after
+  unfolding stepsPart _>>=_ andThen
   steps-1 k i e = rw e refl
 
   steps-2 : (c : ℕ) (t : List ℕ) → line stepsLine stepsRefusal (stepsAt formulas clauses) s ≡ ok c t → stepsPart formulas clauses s ≡ many
       (stepItem formulas clauses) c [] t
-  unfolding stepsPart _>>=_ after
+  unfolding stepsPart _>>=_ andThen
   steps-2 c t e = rw e refl
 
-  pub steps-stopped : (k : ℕ) → numberLineOf (judged (countRefusal 1 2048) (number (valueOf (bytes "steps=") s))) ≡ NumberLine.Refused k
+  pub steps-stopped : (k : ℕ) → numberLineOf (shapedAs (countRefusal 1 2048) (number (valueOf (bytes "steps=") s))) ≡ NumberLine.Refused k
       → stepsPart formulas clauses s ≡ bad k (7 + formulas + clauses)
   steps-stopped k e = steps-1 k (7 + formulas + clauses) (number-bad "steps=" stepsRefusal (stepsAt formulas clauses) s k e)
 
 -- The count of steps and the text behind it, as the code has them.
 pub record Steps-counted (formulas clauses : ℕ) (s : List ℕ) : Type 0 where
   pub count : ℕ
-  pub counted : numberLineOf (judged (countRefusal 1 2048) (number (valueOf (bytes "steps=") s))) ≡ NumberLine.Number count
+  pub counted : numberLineOf (shapedAs (countRefusal 1 2048) (number (valueOf (bytes "steps=") s))) ≡ NumberLine.Number count
   pub rest : List ℕ
   pub behind : rest ≡ restOf s
 
@@ -337,7 +337,7 @@ module _ {formulas clauses : ℕ} {s : List ℕ} (k : Steps-counted formulas cla
     pub rows-inside : length s - length (k .rest) + m .at ≤ length s
     rows-inside = omega (arith, rows-taken)
 
-    pub steps-joined : (Steps.Read (k .count) (length s - length (k .rest) + m .at) ≡ stepsOf (length s) (stepsPart formulas clauses s)) ×
+    pub steps-joined : (Steps.Read (k .count) (length s - length (k .rest) + m .at) ≡ stepSection (length s) (stepsPart formulas clauses s)) ×
         ((rows : List Row) (rest : List ℕ) → stepsPart formulas clauses s ≡ ok rows rest → m .numbers ≡ table stepEntry (m .len) rows)
     steps-joined = (
       steps-read (length s) (stepsPart formulas clauses s) (k .count) (length s - length (k .rest) + m .at) (rowsGot .things) (rowsGot .rest)

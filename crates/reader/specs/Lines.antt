@@ -9,15 +9,15 @@ use mathlib.Core.Option.{Option, none, some}
 use borrow.Author.Tests.{leb-true, le-leb, lt-leb, lt-ltb, le-ltb}
 use lib.Dec.{ltb, leb}
 use lib.ListN.{length, getD}
-use Rattle.scope.specs.Tests.{never}
-use Rattle.scope.specs.Form.{both}
-use Rattle.scope.specs.Request.{Row}
-use Rattle.scope.specs.Bytes.{bytes}
-use Rattle.scope.specs.Number.{number}
-use Rattle.scope.specs.Line.{Value, val, out, Line, ok, bad, settled, judged, placed, line}
-use Rattle.scope.specs.Kinds.{Kind, items, ontoFirst, numbers, kindFrom, same, kindRow, itemsRow, rowIn, formKinds, stepKinds}
-use Rattle.scope.specs.Text.{numberLine, rowLine}
-use Rattle.scope.specs.Refusals.{demand, countRefusal, stepRefusal}
+use Rattle.scope.specs.Tools.Tests.{never}
+use Rattle.scope.specs.Logic.Form.{both}
+use Rattle.scope.specs.File.Request.{Row}
+use Rattle.scope.specs.File.Bytes.{bytes}
+use Rattle.scope.specs.File.Number.{number}
+use Rattle.scope.specs.File.Line.{Value, val, out, Line, ok, bad, orRefused, shapedAs, placed, line}
+use Rattle.scope.specs.File.Kinds.{Kind, items, ontoFirst, numbers, kindFrom, same, kindRow, itemsRow, rowIn, formKinds, stepKinds}
+use Rattle.scope.specs.File.Text.{numberLine, rowLine}
+use Rattle.scope.specs.File.Refusals.{demand, countRefusal, stepRefusal}
 use Rattle.lines.specs.Parts.{valueOf, restOf, line-parts}
 use Rattle.lines.specs.Values.{Behind, rest-behind}
 use Rattle.lines.specs.Stop.{numberStop}
@@ -38,16 +38,16 @@ use Rattle.reader.specs.declared.StepLine.the-variants as StepLine
 
 -- Out of shape, refused, and let through.
 module _ {A : Type 0} (refusal : A → ℕ) (o : Option A) where
-  pub judged-none : o ≡ none → judged refusal o ≡ out 2
-  unfolding judged
+  pub judged-none : o ≡ none → shapedAs refusal o ≡ out 2
+  unfolding shapedAs
   judged-none e = rw e refl
 
-  pub judged-out : (a : A) (k : ℕ) → o ≡ some a → refusal a ≡ suc k → judged refusal o ≡ out (suc k)
-  unfolding judged settled
+  pub judged-out : (a : A) (k : ℕ) → o ≡ some a → refusal a ≡ suc k → shapedAs refusal o ≡ out (suc k)
+  unfolding shapedAs orRefused
   judged-out a k e r = rw e (rw r refl)
 
-  pub judged-val : (a : A) → o ≡ some a → refusal a ≡ 0 → judged refusal o ≡ val a
-  unfolding judged settled
+  pub judged-val : (a : A) → o ≡ some a → refusal a ≡ 0 → shapedAs refusal o ≡ val a
+  unfolding shapedAs orRefused
   judged-val a e r = rw e (rw r refl)
 
 pub number-out : (v : Value ℕ) (k : ℕ) → v ≡ out k → NumberLine.Refused k ≡ numberLineOf v
@@ -108,15 +108,15 @@ out-step (out j) k e = cc
 pub record Step-row (o : Option Row) (x : Step) : Type 0 where
   pub kind : ℕ
   pub number : ℕ
-  pub is : judged stepRefusal o ≡ val (row kind number 0)
+  pub is : shapedAs stepRefusal o ≡ val (row kind number 0)
   pub stored : pairOf x ≡ pair kind number
 
-pub step-row : (o : Option Row) (x : Step) → stepLineOf (judged stepRefusal o) ≡ StepLine.Step x → Step-row o x
-unfolding stepLineOf judged settled
+pub step-row : (o : Option Row) (x : Step) → stepLineOf (shapedAs stepRefusal o) ≡ StepLine.Step x → Step-row o x
+unfolding stepLineOf shapedAs orRefused
 step-row none x e = never cc
 step-row (some r) x e = go (stepRefusal r) refl e
   where
-    go : (j : ℕ) → stepRefusal r ≡ j → stepLineOf (settled j r) ≡ StepLine.Step x → Step-row (some r) x
+    go : (j : ℕ) → stepRefusal r ≡ j → stepLineOf (orRefused j r) ≡ StepLine.Step x → Step-row (some r) x
     go zero z e =
         let small = step-small (r .left) (r .right) (r .kind) z in
         let f : stepFrom (r .kind) (r .left) ≡ x = cc in
@@ -143,54 +143,54 @@ no-step = refl
 
 -- What a line gives by its value v, and where the rest begins: no empty value is in shape, so a line that gives a thing is key, value, LF.
 module _ {A : Type 0} (l : Line A) (refusal : A → ℕ) (s v : List ℕ) (part : v ≡ valueOf (l .key) s) (empty : l .shape .thing [] ≡ none) where
-  by-value : (i : ℕ) → line l refusal i s ≡ placed i (judged refusal (l .shape .thing v)) (restOf s)
-  by-value i = line-parts l refusal i s empty ∙ ap (λ t. placed i (judged refusal (l .shape .thing t)) (restOf s)) (sym part)
+  by-value : (i : ℕ) → line l refusal i s ≡ placed i (shapedAs refusal (l .shape .thing v)) (restOf s)
+  by-value i = line-parts l refusal i s empty ∙ ap (λ t. placed i (shapedAs refusal (l .shape .thing t)) (restOf s)) (sym part)
 
-  line-ok : (i : ℕ) (a : A) (rest : List ℕ) → rest ≡ restOf s → judged refusal (l .shape .thing v) ≡ val a → line l refusal i s ≡ ok a rest
+  line-ok : (i : ℕ) (a : A) (rest : List ℕ) → rest ≡ restOf s → shapedAs refusal (l .shape .thing v) ≡ val a → line l refusal i s ≡ ok a rest
   unfolding placed
   line-ok i a rest r e = by-value i ∙ rw (e, r) refl
 
-  line-bad : (i k : ℕ) → judged refusal (l .shape .thing v) ≡ out k → line l refusal i s ≡ bad k i
+  line-bad : (i k : ℕ) → shapedAs refusal (l .shape .thing v) ≡ out k → line l refusal i s ≡ bad k i
   unfolding placed
   line-bad i k e = by-value i ∙ rw e refl
 
-  line-behind : (a : A) → judged refusal (l .shape .thing v) ≡ val a → Behind s (length v + (length (l .key) + 1))
+  line-behind : (a : A) → shapedAs refusal (l .shape .thing v) ≡ val a → Behind s (length v + (length (l .key) + 1))
   line-behind a e = rest-behind (l .key) v s (length v + (length (l .key) + 1)) part (go v e) refl
     where
-      go : (t : List ℕ) → judged refusal (l .shape .thing t) ≡ val a → 0 < length t
+      go : (t : List ℕ) → shapedAs refusal (l .shape .thing t) ≡ val a → 0 < length t
       go [] e =
           let f = judged-none refusal (l .shape .thing []) empty in
           never cc
       go (b ∷ t) e = omega arith
 
 module _ (key : String) (refusal : ℕ → ℕ) (s v : List ℕ) (part : v ≡ valueOf (bytes key) s) where
-  pub value-ok : (i : ℕ) (rest : List ℕ) (n : ℕ) → rest ≡ restOf s → numberLineOf (judged refusal (number v)) ≡ NumberLine.Number n
+  pub value-ok : (i : ℕ) (rest : List ℕ) (n : ℕ) → rest ≡ restOf s → numberLineOf (shapedAs refusal (number v)) ≡ NumberLine.Number n
       → line (numberLine key) refusal i s ≡ ok n rest
-  value-ok i rest n r e = line-ok (numberLine key) refusal s v part no-number i n rest r (val-number (judged refusal (number v)) n e)
+  value-ok i rest n r e = line-ok (numberLine key) refusal s v part no-number i n rest r (val-number (shapedAs refusal (number v)) n e)
 
-  pub value-bad : (i k : ℕ) → numberLineOf (judged refusal (number v)) ≡ NumberLine.Refused k → line (numberLine key) refusal i s ≡ bad k i
-  value-bad i k e = line-bad (numberLine key) refusal s v part no-number i k (out-number (judged refusal (number v)) k e)
+  pub value-bad : (i k : ℕ) → numberLineOf (shapedAs refusal (number v)) ≡ NumberLine.Refused k → line (numberLine key) refusal i s ≡ bad k i
+  value-bad i k e = line-bad (numberLine key) refusal s v part no-number i k (out-number (shapedAs refusal (number v)) k e)
 
-  pub value-behind : (n : ℕ) → numberLineOf (judged refusal (number v)) ≡ NumberLine.Number n → Behind s (length v + (length (bytes key) + 1))
-  value-behind n e = line-behind (numberLine key) refusal s v part no-number n (val-number (judged refusal (number v)) n e)
+  pub value-behind : (n : ℕ) → numberLineOf (shapedAs refusal (number v)) ≡ NumberLine.Number n → Behind s (length v + (length (bytes key) + 1))
+  value-behind n e = line-behind (numberLine key) refusal s v part no-number n (val-number (shapedAs refusal (number v)) n e)
 
 pub number-ok : (key : String) (refusal : ℕ → ℕ) (i : ℕ) (s rest : List ℕ) (n : ℕ) → rest ≡ restOf s
-    → numberLineOf (judged refusal (number (valueOf (bytes key) s))) ≡ NumberLine.Number n → line (numberLine key) refusal i s ≡ ok n rest
+    → numberLineOf (shapedAs refusal (number (valueOf (bytes key) s))) ≡ NumberLine.Number n → line (numberLine key) refusal i s ≡ ok n rest
 number-ok key refusal i s rest n r e = value-ok key refusal s (valueOf (bytes key) s) refl i rest n r e
 
 pub number-bad : (key : String) (refusal : ℕ → ℕ) (i : ℕ) (s : List ℕ) (k : ℕ)
-    → numberLineOf (judged refusal (number (valueOf (bytes key) s))) ≡ NumberLine.Refused k → line (numberLine key) refusal i s ≡ bad k i
+    → numberLineOf (shapedAs refusal (number (valueOf (bytes key) s))) ≡ NumberLine.Refused k → line (numberLine key) refusal i s ≡ bad k i
 number-bad key refusal i s k e = value-bad key refusal s (valueOf (bytes key) s) refl i k e
 
 module _ (key : String) (kinds : List Kind) (refusal : Row → ℕ) (s v : List ℕ) (part : v ≡ valueOf (bytes key) s) (empty : rowIn kinds [] ≡ none) where
-  pub row-ok : (i : ℕ) (rest : List ℕ) (k l r : ℕ) → rest ≡ restOf s → judged refusal (rowIn kinds v) ≡ val (row k l r)
+  pub row-ok : (i : ℕ) (rest : List ℕ) (k l r : ℕ) → rest ≡ restOf s → shapedAs refusal (rowIn kinds v) ≡ val (row k l r)
       → line (rowLine key kinds) refusal i s ≡ ok (row k l r) rest
   row-ok i rest k l r is e = line-ok (rowLine key kinds) refusal s v part empty i (row k l r) rest is e
 
-  pub row-bad : (i k : ℕ) → judged refusal (rowIn kinds v) ≡ out k → line (rowLine key kinds) refusal i s ≡ bad k i
+  pub row-bad : (i k : ℕ) → shapedAs refusal (rowIn kinds v) ≡ out k → line (rowLine key kinds) refusal i s ≡ bad k i
   row-bad i k e = line-bad (rowLine key kinds) refusal s v part empty i k e
 
-  pub row-behind : (k l r : ℕ) → judged refusal (rowIn kinds v) ≡ val (row k l r) → Behind s (length v + (length (bytes key) + 1))
+  pub row-behind : (k l r : ℕ) → shapedAs refusal (rowIn kinds v) ≡ val (row k l r) → Behind s (length v + (length (bytes key) + 1))
   row-behind k l r e = line-behind (rowLine key kinds) refusal s v part empty (row k l r) e
 
 -- The refusals of a count and of a formula number.
@@ -215,58 +215,58 @@ unfolding belowRefusal demand
 below-is n f h = rw (lt-ltb f n h) refl
 
 -- A count that is let through is within its bounds.
-pub count-most : (least most : ℕ) (o : Option ℕ) (n : ℕ) → numberLineOf (judged (countRefusal least most) o) ≡ NumberLine.Number n → n ≤ most
-unfolding numberLineOf judged settled countRefusal both demand
+pub count-most : (least most : ℕ) (o : Option ℕ) (n : ℕ) → numberLineOf (shapedAs (countRefusal least most) o) ≡ NumberLine.Number n → n ≤ most
+unfolding numberLineOf shapedAs orRefused countRefusal both demand
 count-most least most none n e = never cc
 count-most least most (some m) n e = go (leb least m) (leb m most) refl refl e
   where
-    go : (a b : Bool) → leb least m ≡ a → leb m most ≡ b → numberLineOf (settled (demand (both a b) 3 0) m) ≡ NumberLine.Number n → n ≤ most
+    go : (a b : Bool) → leb least m ≡ a → leb m most ≡ b → numberLineOf (orRefused (demand (both a b) 3 0) m) ≡ NumberLine.Number n → n ≤ most
     go true true p q e = let f : m ≡ n = cc in omega (arith, leb-true m most q)
     go true false p q e = never cc
     go false b p q e = never cc
 
 -- The class is asked of a number that is a formula's.
 module _ (test : ℕ → Bool) (classes : List ℕ) (n : ℕ) (o : Option ℕ) where
-  pub class-before : (k : ℕ) → numberLineOf (judged (belowRefusal n) o) ≡ NumberLine.Refused k → NumberLine.Refused k ≡ numberLineOf
-      (judged (classRefusal test classes n) o)
-  unfolding numberLineOf judged settled belowRefusal classRefusal demand
+  pub class-before : (k : ℕ) → numberLineOf (shapedAs (belowRefusal n) o) ≡ NumberLine.Refused k → NumberLine.Refused k ≡ numberLineOf
+      (shapedAs (classRefusal test classes n) o)
+  unfolding numberLineOf shapedAs orRefused belowRefusal classRefusal demand
   class-before = go o
     where
-      go : (o : Option ℕ) (k : ℕ) → numberLineOf (judged (belowRefusal n) o) ≡ NumberLine.Refused k → NumberLine.Refused k ≡ numberLineOf
-          (judged (classRefusal test classes n) o)
+      go : (o : Option ℕ) (k : ℕ) → numberLineOf (shapedAs (belowRefusal n) o) ≡ NumberLine.Refused k → NumberLine.Refused k ≡ numberLineOf
+          (shapedAs (classRefusal test classes n) o)
       go none k e = sym e
       go (some f) k e = low (ltb f n) e
         where
-          low : (b : Bool) → numberLineOf (settled (demand b 3 0) f) ≡ NumberLine.Refused k → NumberLine.Refused k ≡ numberLineOf
-              (settled (demand b 3 (demand (test (getD classes f 0)) 5 0)) f)
+          low : (b : Bool) → numberLineOf (orRefused (demand b 3 0) f) ≡ NumberLine.Refused k → NumberLine.Refused k ≡ numberLineOf
+              (orRefused (demand b 3 (demand (test (getD classes f 0)) 5 0)) f)
           low true e = never cc
           low false e = sym e
 
-  class-after : (f : ℕ) → numberLineOf (judged (belowRefusal n) o) ≡ NumberLine.Number f → judged (classRefusal test classes n) o
-      ≡ settled (demand (test (getD classes f 0)) 5 0) f
-  unfolding numberLineOf judged settled belowRefusal classRefusal demand
+  class-after : (f : ℕ) → numberLineOf (shapedAs (belowRefusal n) o) ≡ NumberLine.Number f → shapedAs (classRefusal test classes n) o
+      ≡ orRefused (demand (test (getD classes f 0)) 5 0) f
+  unfolding numberLineOf shapedAs orRefused belowRefusal classRefusal demand
   class-after = go o
     where
-      go : (o : Option ℕ) (f : ℕ) → numberLineOf (judged (belowRefusal n) o) ≡ NumberLine.Number f → judged (classRefusal test classes n) o
-          ≡ settled (demand (test (getD classes f 0)) 5 0) f
+      go : (o : Option ℕ) (f : ℕ) → numberLineOf (shapedAs (belowRefusal n) o) ≡ NumberLine.Number f → shapedAs (classRefusal test classes n) o
+          ≡ orRefused (demand (test (getD classes f 0)) 5 0) f
       go none f e = never cc
       go (some m) f e = low (ltb m n) e
         where
-          low : (b : Bool) → numberLineOf (settled (demand b 3 0) m) ≡ NumberLine.Number f → settled
-              (demand b 3 (demand (test (getD classes m 0)) 5 0)) m ≡ settled (demand (test (getD classes f 0)) 5 0) f
-          low true e = let p : m ≡ f = cc in ap (λ x. settled (demand (test (getD classes x 0)) 5 0) x) p
+          low : (b : Bool) → numberLineOf (orRefused (demand b 3 0) m) ≡ NumberLine.Number f → orRefused
+              (demand b 3 (demand (test (getD classes m 0)) 5 0)) m ≡ orRefused (demand (test (getD classes f 0)) 5 0) f
+          low true e = let p : m ≡ f = cc in ap (λ x. orRefused (demand (test (getD classes x 0)) 5 0) x) p
           low false e = never cc
 
   -- The class of a formula that is asked for, and another.
-  pub class-met : (f : ℕ) → numberLineOf (judged (belowRefusal n) o) ≡ NumberLine.Number f → test (getD classes f 0) ≡ true →
-      NumberLine.Number f ≡ numberLineOf (judged (classRefusal test classes n) o)
-  unfolding settled demand
-  class-met f e t = number-val (judged (classRefusal test classes n) o) f (class-after f e ∙ rw t refl)
+  pub class-met : (f : ℕ) → numberLineOf (shapedAs (belowRefusal n) o) ≡ NumberLine.Number f → test (getD classes f 0) ≡ true →
+      NumberLine.Number f ≡ numberLineOf (shapedAs (classRefusal test classes n) o)
+  unfolding orRefused demand
+  class-met f e t = number-val (shapedAs (classRefusal test classes n) o) f (class-after f e ∙ rw t refl)
 
-  pub class-unmet : (f : ℕ) → numberLineOf (judged (belowRefusal n) o) ≡ NumberLine.Number f → test (getD classes f 0) ≡ false →
-      NumberLine.Refused 5 ≡ numberLineOf (judged (classRefusal test classes n) o)
-  unfolding settled demand
-  class-unmet f e t = number-out (judged (classRefusal test classes n) o) 5 (class-after f e ∙ rw t refl)
+  pub class-unmet : (f : ℕ) → numberLineOf (shapedAs (belowRefusal n) o) ≡ NumberLine.Number f → test (getD classes f 0) ≡ false →
+      NumberLine.Refused 5 ≡ numberLineOf (shapedAs (classRefusal test classes n) o)
+  unfolding orRefused demand
+  class-unmet f e t = number-out (shapedAs (classRefusal test classes n) o) 5 (class-after f e ∙ rw t refl)
 
 -- What the answer about a value says of its row.
 pub row-none : (o : Option Row) → rowAnswer o ≡ RowValue.Bad → o ≡ none
@@ -284,38 +284,38 @@ row-some (some m) k l r e =
     ap some (λ i. record { kind = a i; left = b i; right = c i })
 
 -- A refusal that is not 0.
-refused-row : (refusal : Row → ℕ) (o : Option Row) (a : Row) (k : ℕ) → o ≡ some a → k ≡ refusal a → (k ≡ 0 → ⊥) → judged refusal o ≡ out k
+refused-row : (refusal : Row → ℕ) (o : Option Row) (a : Row) (k : ℕ) → o ≡ some a → k ≡ refusal a → (k ≡ 0 → ⊥) → shapedAs refusal o ≡ out k
 refused-row refusal o a zero e r n = absurd (n refl)
 refused-row refusal o a (suc k) e r n = judged-out refusal o a k e (sym r)
 
 -- A number line and a row line from the value that was found and the answer about it.
 module _ (refusal : ℕ → ℕ) (value whole : List ℕ) (part : value ≡ whole) (r : Number)
     (about : r ≡ numberAnswer (number value) (numberStop value)) where
-  pub number-lost : (at : ℕ) → r ≡ NumberValue.Bad at → NumberLine.Refused 2 ≡ numberLineOf (judged refusal (number whole))
+  pub number-lost : (at : ℕ) → r ≡ NumberValue.Bad at → NumberLine.Refused 2 ≡ numberLineOf (shapedAs refusal (number whole))
   number-lost at e =
-      number-out (judged refusal (number whole)) 2
+      number-out (shapedAs refusal (number whole)) 2
       (judged-none refusal (number whole) (ap number (sym part) ∙ number-none (number value) (numberStop value) at (sym about ∙ e)))
 
   module _ (n : ℕ) (e : r ≡ NumberValue.Value n) where
     written : number whole ≡ some n
     written = ap number (sym part) ∙ number-some (number value) (numberStop value) n (sym about ∙ e)
 
-    pub number-turned : (k : ℕ) → refusal n ≡ suc k → NumberLine.Refused (suc k) ≡ numberLineOf (judged refusal (number whole))
-    number-turned k z = number-out (judged refusal (number whole)) (suc k) (judged-out refusal (number whole) n k written z)
+    pub number-turned : (k : ℕ) → refusal n ≡ suc k → NumberLine.Refused (suc k) ≡ numberLineOf (shapedAs refusal (number whole))
+    number-turned k z = number-out (shapedAs refusal (number whole)) (suc k) (judged-out refusal (number whole) n k written z)
 
-    pub number-taken : refusal n ≡ 0 → NumberLine.Number n ≡ numberLineOf (judged refusal (number whole))
-    number-taken z = number-val (judged refusal (number whole)) n (judged-val refusal (number whole) n written z)
+    pub number-taken : refusal n ≡ 0 → NumberLine.Number n ≡ numberLineOf (shapedAs refusal (number whole))
+    number-taken z = number-val (shapedAs refusal (number whole)) n (judged-val refusal (number whole) n written z)
 
 module _ (kinds : List Kind) (refusal : Row → ℕ) (value : List ℕ) (v : RowAnswer) (about : v ≡ rowAnswer (rowIn kinds value)) where
-  pub row-lost : v ≡ RowValue.Bad → judged refusal (rowIn kinds value) ≡ out 2
+  pub row-lost : v ≡ RowValue.Bad → shapedAs refusal (rowIn kinds value) ≡ out 2
   row-lost e = judged-none refusal (rowIn kinds value) (row-none (rowIn kinds value) (sym about ∙ e))
 
   module _ (k l r : ℕ) (e : v ≡ RowValue.Items k l r) where
     inShape : rowIn kinds value ≡ some (row k l r)
     inShape = row-some (rowIn kinds value) k l r (sym about ∙ e)
 
-    pub row-turned : (j : ℕ) → j ≡ refusal (row k l r) → (j ≡ 0 → ⊥) → judged refusal (rowIn kinds value) ≡ out j
+    pub row-turned : (j : ℕ) → j ≡ refusal (row k l r) → (j ≡ 0 → ⊥) → shapedAs refusal (rowIn kinds value) ≡ out j
     row-turned j z n = refused-row refusal (rowIn kinds value) (row k l r) j inShape z n
 
-    pub row-taken : refusal (row k l r) ≡ 0 → judged refusal (rowIn kinds value) ≡ val (row k l r)
+    pub row-taken : refusal (row k l r) ≡ 0 → shapedAs refusal (rowIn kinds value) ≡ val (row k l r)
     row-taken z = judged-val refusal (rowIn kinds value) (row k l r) inShape z

@@ -1,4 +1,4 @@
--- Several lines one after the other: one turn of a loop over them, and the text that is left.
+-- Several lines one andThen the other: one turn of a loop over them, and the text that is left.
 use Prim.Native.Nat.{ℕ, zero, suc, _-_, _≤_}
 use native.Mathlib.Omega.{arith}
 use mathlib.Core.Path.{_≡_, refl, ap, sym, _∙_}
@@ -8,8 +8,8 @@ use lib.Dec.{ltb}
 use lib.ListN.{length, take, drop, length-append, take-append-drop}
 use lib.Seq.{drop-at}
 use borrow.Author.Tests.{ltb-true, ltb-false}
-use Rattle.scope.specs.Tests.{never}
-use Rattle.scope.specs.Line.{Line, Read, ok, bad, Reader, Cut, parts, uncut, cut, Value, val, out, valued, placed, lineOf, line, strip, after, _>>=_, many, done}
+use Rattle.scope.specs.Tools.Tests.{never}
+use Rattle.scope.specs.File.Line.{Line, Read, ok, bad, Reader, Cut, parts, uncut, cut, Value, val, out, valued, placed, lineOf, line, strip, andThen, _>>=_, many, done}
 use Rattle.lines.specs.Parts.{upTo, cut-found, cut-none, restOf, lineRest}
 
 -- Things read before those that a reading gives.
@@ -20,15 +20,15 @@ onto before (bad k i) = bad k i
 module _ {A : Type 0} (item : List A → Reader A) where
   pub many-more : (m : ℕ) (before : List A) (s rest : List ℕ) (a : A) → item before s ≡ ok a rest
       → onto before (many item (suc m) before s) ≡ onto (before ++ (a ∷ [])) (many item m (before ++ (a ∷ [])) rest)
-  unfolding many _>>=_ after onto
+  unfolding many _>>=_ andThen onto
   many-more m before s rest a e = rw e (go (many item m (before ++ (a ∷ [])) rest))
     where
-      go : (r : Read (List A)) → onto before (after r (λ more. done (a ∷ more))) ≡ onto (before ++ (a ∷ [])) r
+      go : (r : Read (List A)) → onto before (andThen r (λ more. done (a ∷ more))) ≡ onto (before ++ (a ∷ [])) r
       go (ok more t) = ap (λ l. ok l t) (sym (append-assoc before (a ∷ []) more))
       go (bad k i) = refl
 
   pub many-stop : (m : ℕ) (before : List A) (s : List ℕ) (k i : ℕ) → item before s ≡ bad k i → onto before (many item (suc m) before s) ≡ bad k i
-  unfolding many _>>=_ after onto
+  unfolding many _>>=_ andThen onto
   many-stop m before s k i e = rw e refl
 
   pub many-end : (before : List A) (s : List ℕ) → onto before (many item zero before s) ≡ ok before s
@@ -44,17 +44,17 @@ module _ {A : Type 0} (item : List A → Reader A) where
       go (bad k i) = refl
 
   pub many-length : (n : ℕ) (before : List A) (s : List ℕ) (xs : List A) (rest : List ℕ) → many item n before s ≡ ok xs rest → length xs ≡ n
-  unfolding many _>>=_ after
+  unfolding many _>>=_ andThen
   many-length zero before s xs rest e = let f : xs ≡ [] = cc in rw f refl
   many-length (suc n) before s xs rest e = go (λ b t ys u. many-length n b t ys u) (item before s) e
     where
-      later : (a : A) (r : Read (List A)) → ((ys : List A) (t : List ℕ) → r ≡ ok ys t → length ys ≡ n) → after r (λ more. done (a ∷ more))
+      later : (a : A) (r : Read (List A)) → ((ys : List A) (t : List ℕ) → r ≡ ok ys t → length ys ≡ n) → andThen r (λ more. done (a ∷ more))
           ≡ ok xs rest → length xs ≡ suc n
       later a (ok ys t) f e = let g : xs ≡ a ∷ ys = cc in rw g (ap suc (f ys t refl))
       later a (bad k i) f e = never cc
 
       go : ((b : List A) (t : List ℕ) (ys : List A) (u : List ℕ) → many item n b t ≡ ok ys u → length ys ≡ n) → (r : Read A)
-          → after r (λ a. _>>=_ (many item n (before ++ (a ∷ []))) (λ more. done (a ∷ more))) ≡ ok xs rest → length xs ≡ suc n
+          → andThen r (λ a. _>>=_ (many item n (before ++ (a ∷ []))) (λ more. done (a ∷ more))) ≡ ok xs rest → length xs ≡ suc n
       go f (ok a t) e = later a (many item n (before ++ (a ∷ [])) t) (f (before ++ (a ∷ [])) t) e
       go f (bad k i) e = never cc
 
@@ -109,10 +109,10 @@ line-ends {A} l refusal i = record { ends = λ s a rest e. go s a rest (cut 10 s
     go s a rest (parts t r) f e = last s a rest r (valued l refusal (strip (l .key) t)) e (rw f refl)
 
 pub seq-ends : {A B : Type 0} (m : Reader A) (f : A → Reader B) → Ends m → ((a : A) → Ends (f a)) → Ends (_>>=_ m f)
-unfolding _>>=_ after
+unfolding _>>=_ andThen
 seq-ends {A} {B} m f p q = record { ends = λ s b rest e. go s b rest (m s) refl e }
   where
-    go : (s : List ℕ) (b : B) (rest : List ℕ) (r : Read A) → m s ≡ r → after r f ≡ ok b rest → Tail rest s
+    go : (s : List ℕ) (b : B) (rest : List ℕ) (r : Read A) → m s ≡ r → andThen r f ≡ ok b rest → Tail rest s
     go s b rest (ok a t) g e = tail-more (q a .ends t b rest e) (p .ends s a t g)
     go s b rest (bad k i) g e = never cc
 

@@ -7,21 +7,21 @@ use mathlib.Core.Bool.{Bool, true, false}
 use lib.ListN.{length, replicate}
 use lib.Dec.{leb}
 use borrow.Author.Tests.{leb-true, le-leb, lt-leb}
-use Rattle.scope.specs.Tests.{never}
-use Rattle.scope.specs.Form.{both}
-use Rattle.scope.specs.Request.{Row, Request}
-use Rattle.scope.specs.Line.{Read, ok, bad, after, _>>=_}
+use Rattle.scope.specs.Tools.Tests.{never}
+use Rattle.scope.specs.Logic.Form.{both}
+use Rattle.scope.specs.File.Request.{Row, Request}
+use Rattle.scope.specs.File.Line.{Read, ok, bad, andThen, _>>=_}
 use Rattle.scope.specs.Limits.{endAt}
-use Rattle.scope.specs.Reader.{Outcome, read, refused, ended, readRequest}
-use Rattle.scope.specs.Tables.{formEntry, lineEntry, stepEntry, table, unpack, hasRoom}
-use Rattle.scope.specs.Calls.{reading, requestIn, formTableAfter, lineTableAfter, stepTableAfter}
+use Rattle.scope.specs.File.Reader.{Outcome, read, refused, ended, readRequest}
+use Rattle.scope.specs.Call.Tables.{formEntry, lineEntry, stepEntry, table, unpack, hasRoom}
+use Rattle.scope.specs.Call.Calls.{reading, requestIn, formTableAfter, lineTableAfter, stepTableAfter}
 use Rattle.counts.specs.declared.Counts.{Counts}
 use Rattle.counts.specs.declared.Refusal.{Refusal}
 use Rattle.reader.specs.Sections.{Formulas, PolicyRead, formulasPart, policyPart, stepsPart}
-use Rattle.reader.specs.Answers.{readingOf, formulasOf, policyOf, stepsOf}
+use Rattle.reader.specs.Answers.{readingOf, formulasOf, policySection, stepSection}
 use Rattle.reader.specs.Many.{tail-length}
 use Rattle.reader.specs.Stored.{table-none, unpack-table}
-use Rattle.reader.specs.Whole.{requestOf, sections, request-sections, formulas-ends, policy-ends, steps-ends}
+use Rattle.reader.specs.Whole.{requestWith, sections, request-sections, formulas-ends, policy-ends, steps-ends}
 use Rattle.reader.specs.Got.{partFrom, part-is, Formulas-got, formulas-got, formulas-lost, Policy-got, policy-got, policy-lost, Steps-got, steps-got, steps-lost}
 use Rattle.reader.specs.declared.Reading.the-variants as Reading
 use Rattle.reader.specs.declared.Head.the-variants as Head
@@ -52,22 +52,22 @@ module _ (t : List ℕ) where
   read-whole q (b ∷ v) e h = absurd (omega arith)
 
   whole-1 : (k i : ℕ) → formulasPart t ≡ bad k i → sections t ≡ bad k i
-  unfolding sections _>>=_ after
+  unfolding sections _>>=_ andThen
   whole-1 k i a = rw a refl
 
   module _ (f : Formulas) (s : List ℕ) (a : formulasPart t ≡ ok f s) where
     whole-2 : (k i : ℕ) → policyPart (f .forms) s ≡ bad k i → sections t ≡ bad k i
-    unfolding sections _>>=_ after
+    unfolding sections _>>=_ andThen
     whole-2 k i b = rw a (rw b refl)
 
     module _ (p : PolicyRead) (u : List ℕ) (b : policyPart (f .forms) s ≡ ok p u) where
       whole-3 : (k i : ℕ) → stepsPart (length (f .forms)) (length (p .lines)) u ≡ bad k i → sections t ≡ bad k i
-      unfolding sections _>>=_ after
+      unfolding sections _>>=_ andThen
       whole-3 k i c = rw a (rw b (rw c refl))
 
       whole-4 : (rows : List Row) (v : List ℕ) → stepsPart (length (f .forms)) (length (p .lines)) u ≡ ok rows v → sections t ≡ ok
-          (requestOf f p rows) v
-      unfolding sections _>>=_ after
+          (requestWith f p rows) v
+      unfolding sections _>>=_ andThen
       whole-4 rows v c = rw a (rw b (rw c refl))
 
   pub formulas-end : (x : Refusal) → formulasOf (length t) (formulasPart t) ≡ Head.Refused x → readRequest t ≡ refused (x .number) (x .place)
@@ -95,7 +95,7 @@ pub record Policy-kept {t : List ℕ} (k : Formulas-kept t) : Type 0 where
   pub count : ℕ
   pub goal : ℕ
   pub at : ℕ
-  pub is : policyOf (length (behindFormulas k)) (policyRead k) ≡ Policy.Read count goal at
+  pub is : policySection (length (behindFormulas k)) (policyRead k) ≡ Policy.Read count goal at
   pub numbers : List ℕ
   pub len : ℕ
   pub stored : (p : PolicyRead) (rest : List ℕ) → policyRead k ≡ ok p rest → numbers ≡ table lineEntry len (p .lines)
@@ -109,7 +109,7 @@ stepsRead {t} {k} p = stepsPart (k .count) (p .count) (behindPolicy p)
 pub record Steps-kept {t : List ℕ} {k : Formulas-kept t} (p : Policy-kept k) : Type 0 where
   pub count : ℕ
   pub at : ℕ
-  pub is : stepsOf (length (behindPolicy p)) (stepsRead p) ≡ Steps.Read count at
+  pub is : stepSection (length (behindPolicy p)) (stepsRead p) ≡ Steps.Read count at
   pub numbers : List ℕ
   pub len : ℕ
   pub stored : (rows : List Row) (rest : List ℕ) → stepsRead p ≡ ok rows rest → numbers ≡ table stepEntry len rows
@@ -135,7 +135,7 @@ module _ {t : List ℕ} (k : Formulas-kept t) where
   same-policy : policyRead k ≡ policyPart (fg .forms) (fg .rest)
   same-policy = λ i. policyPart (rows-are i) (second i)
 
-  pub policy-end : (x : Refusal) → policyOf (length (behindFormulas k)) (policyRead k) ≡ Policy.Refused x → readRequest t
+  pub policy-end : (x : Refusal) → policySection (length (behindFormulas k)) (policyRead k) ≡ Policy.Refused x → readRequest t
       ≡ refused (x .number) (x .place)
   policy-end x d =
       read-refused t (x .number) (x .place)
@@ -160,7 +160,7 @@ module _ {t : List ℕ} (k : Formulas-kept t) where
     same-steps : stepsRead p ≡ stepsPart (length (fg .forms)) (length (pg .lines)) (pg .rest)
     same-steps = λ i. stepsPart (fg .count i) (pg .count i) (third i)
 
-    pub steps-end : (x : Refusal) → stepsOf (length (behindPolicy p)) (stepsRead p) ≡ Steps.Refused x → readRequest t
+    pub steps-end : (x : Refusal) → stepSection (length (behindPolicy p)) (stepsRead p) ≡ Steps.Refused x → readRequest t
         ≡ refused (x .number) (x .place)
     steps-end x h =
         read-refused t (x .number) (x .place)
@@ -173,7 +173,7 @@ module _ {t : List ℕ} (k : Formulas-kept t) where
       sg = steps-got (length (behindPolicy p)) (stepsRead p) (s .count) (s .at) (s .is)
 
       abbrev joined : Request
-      joined = requestOf formulasGot policyGot (sg .rows)
+      joined = requestWith formulasGot policyGot (sg .rows)
 
       all-lines : sections t ≡ ok joined (sg .rest)
       all-lines = whole-4 t formulasGot (fg .rest) (fg .is) policyGot (pg .rest) (sym same-policy ∙ pg .is) (sg .rows) (sg .rest)
@@ -268,7 +268,7 @@ module _ (forms lines steps : ℕ) (s : List ℕ) where
   unfolding reading
   in-order e h = rw (e, le-leb (length s) 65536 h) refl
 
--- The tables after a refusal, and after a request was read.
+-- The tables andThen a refusal, and andThen a request was read.
 module _ (len : ℕ) (o : Outcome) where
   forms-zero : (k i : ℕ) → o ≡ refused k i → replicate len 0 ≡ formTableAfter len o
   unfolding formTableAfter requestIn
@@ -294,7 +294,7 @@ module _ (len : ℕ) (o : Outcome) where
   unfolding stepTableAfter requestIn
   steps-stored q e = rw e refl
 
--- Three tables that are all zero, and what they are after a refusal.
+-- Three tables that are all zero, and what they are andThen a refusal.
 pub record Cleared (forms lines steps : ℕ) : Type 0 where
   pub formTable : List ℕ
   pub lineTable : List ℕ

@@ -4,12 +4,12 @@ use mathlib.Core.List.{List, []}
 use lib.Dec.{ltb}
 use lib.ListN.{length}
 use Rattle.refusals.specs.Rows.{classRefusal}
-use Rattle.scope.specs.Request.{Row}
-use Rattle.scope.specs.Line.{Reader, line, many, done, _>>=_}
+use Rattle.scope.specs.File.Request.{Row}
+use Rattle.scope.specs.File.Line.{Reader, line, many, done, _>>=_}
 use Rattle.scope.specs.Limits.{versionAt, principalsAt, atomsAt, formulasAt, clausesAt, clauseAt, goalAt, stepsAt}
-use Rattle.scope.specs.Refusals.{demand, versionRefusal, principalsRefusal, atomsRefusal, formulasRefusal, clausesRefusal, goalRefusal, stepsRefusal}
-use Rattle.scope.specs.Text.{versionLine, principalsLine, atomsLine, formulasLine, clausesLine, clauseLine, goalLine, stepsLine}
-use Rattle.scope.specs.Reader.{formItem, clauseItem, stepItem}
+use Rattle.scope.specs.File.Refusals.{demand, versionRefusal, principalsRefusal, atomsRefusal, formulasRefusal, clausesRefusal, goalRefusal, stepsRefusal}
+use Rattle.scope.specs.File.Text.{versionLine, principalsLine, atomsLine, formulasLine, clausesLine, clauseLine, goalLine, stepsLine}
+use Rattle.scope.specs.File.Reader.{formItem, clauseItem, stepItem}
 use Rattle.classes.specs.Class.{policyIn}
 
 -- The first four lines.

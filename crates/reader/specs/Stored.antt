@@ -7,9 +7,9 @@ use mathlib.Core.Path.{_≡_, refl, ap, sym, _∙_}
 use mathlib.Core.List.{List, [], _∷_, _++_, append-assoc, append-nil}
 use lib.ListN.{length, drop, set, replicate, length-append, length-replicate}
 use lib.Seq.{sets, sets-eq, take-append-seam, drop-append-add}
-use Rattle.scope.specs.Request.{Row}
-use Rattle.scope.specs.Bytes.{joined}
-use Rattle.scope.specs.Tables.{Entry, formEntry, lineEntry, stepEntry, unpack, pack, padded, table}
+use Rattle.scope.specs.File.Request.{Row}
+use Rattle.scope.specs.File.Bytes.{joined}
+use Rattle.scope.specs.Call.Tables.{Entry, formEntry, lineEntry, stepEntry, unpack, pack, padded, table}
 use Rattle.refusals.specs.Rows.{row}
 
 pub table-none : {A : Type 0} (e : Entry A) (len : ℕ) → table e len [] ≡ replicate len 0

@@ -6,16 +6,16 @@ use native.Mathlib.Omega.{arith}
 use mathlib.Core.Path.{_≡_, refl, ap, sym, subst, _∙_}
 use mathlib.Core.List.{List, [], _∷_, _++_}
 use lib.ListN.{length, set, replicate, length-append, length-set}
-use Rattle.scope.specs.Bytes.{bytes}
-use Rattle.scope.specs.Number.{number}
-use Rattle.scope.specs.Request.{Row}
-use Rattle.scope.specs.Line.{Value, val, out, Read, ok, bad, Reader, judged, line, after, _>>=_, many}
-use Rattle.scope.specs.Tables.{Entry, table, formEntry, lineEntry, stepEntry}
-use Rattle.scope.specs.Kinds.{formKinds, stepKinds, rowIn}
+use Rattle.scope.specs.File.Bytes.{bytes}
+use Rattle.scope.specs.File.Number.{number}
+use Rattle.scope.specs.File.Request.{Row}
+use Rattle.scope.specs.File.Line.{Value, val, out, Read, ok, bad, Reader, shapedAs, line, andThen, _>>=_, many}
+use Rattle.scope.specs.Call.Tables.{Entry, table, formEntry, lineEntry, stepEntry}
+use Rattle.scope.specs.File.Kinds.{formKinds, stepKinds, rowIn}
 use Rattle.scope.specs.Limits.{versionAt, principalsAt, atomsAt, formulasAt, clauseAt, stepAt}
-use Rattle.scope.specs.Refusals.{rowRefusal, formRefusal, stepRefusal, versionRefusal, principalsRefusal, atomsRefusal, formulasRefusal}
-use Rattle.scope.specs.Text.{versionLine, principalsLine, atomsLine, formulasLine}
-use Rattle.scope.specs.Reader.{formItem, stepItem}
+use Rattle.scope.specs.File.Refusals.{rowRefusal, formRefusal, stepRefusal, versionRefusal, principalsRefusal, atomsRefusal, formulasRefusal}
+use Rattle.scope.specs.File.Text.{versionLine, principalsLine, atomsLine, formulasLine}
+use Rattle.scope.specs.File.Reader.{formItem, stepItem}
 use Rattle.classes.specs.Class.{policyIn}
 use Rattle.lines.specs.Parts.{valueOf, restOf}
 use Rattle.lines.specs.Values.{Behind}
@@ -54,7 +54,7 @@ module _ {A : Type 0} (n : ℕ) (r : Read (List A)) where
   unfolding sectionOf
   section-read entry len numbers xs rest e d = (rw e refl, λ ys over f. d ∙ ap (table entry len) (same-things r xs ys rest over e f))
 
--- A loop over n lines after i of them: the things read so far stand in the table, and what is left of the text gives the others.
+-- A loop over n lines andThen i of them: the things read so far stand in the table, and what is left of the text gives the others.
 pub record Turns {A : Type 0} (entry : Entry A) (item : List A → Reader A) (n : ℕ) (text : List ℕ) (len : ℕ) (numbers rest : List ℕ)
     (i : ℕ) : Type 0 where
   pub before : List A
@@ -99,10 +99,10 @@ module _ {A : Type 0} (entry : Entry A) (item : List A → Reader A) (n : ℕ) (
           section-refused (length text) (many item n [] text) j place
           (one-turn ∙ many-stop item (n - (i + 1)) (k .before) rest j place e) x d
 
-      turn-more : (a : A) (m : ℕ) → Behind rest m → item (k .before) rest ≡ ok a (partFrom m rest) → (after : List ℕ)
-          → length after ≡ length numbers
-          → after ≡ table entry len (k .before ++ (a ∷ [])) → Turns entry item n text len after (partFrom m rest) (i + 1)
-      turn-more a m b e after l d =
+      turn-more : (a : A) (m : ℕ) → Behind rest m → item (k .before) rest ≡ ok a (partFrom m rest) → (andThen : List ℕ)
+          → length andThen ≡ length numbers
+          → andThen ≡ table entry len (k .before ++ (a ∷ [])) → Turns entry item n text len andThen (partFrom m rest) (i + 1)
+      turn-more a m b e andThen l d =
           record {
             before = k .before ++ (a ∷ []);
             count = omega (arith, length-append (k .before) (a ∷ []), k .count);
@@ -122,14 +122,14 @@ pub record Line-asked {R : Type 0} (key : String) (asked : List ℕ → R) (s : 
 
 -- One turn over `form=` lines. The line is its key, its value and the LF, for no row has an empty value: the rest begins behind them.
 abbrev pub formAsked : ℕ → ℕ → ℕ → List ℕ → RowLine
-formAsked principals atoms i v = rowLineOf (judged (rowRefusal formKinds principals atoms i) (rowIn formKinds v))
+formAsked principals atoms i v = rowLineOf (shapedAs (rowRefusal formKinds principals atoms i) (rowIn formKinds v))
 
 module _ (principals atoms : ℕ) {n : ℕ} {text : List ℕ} {len : ℕ} {numbers s : List ℕ} {i : ℕ}
     (k : Turns formEntry (formItem principals atoms) n text len numbers s i) (h : i < n)
     (q : Line-asked "form=" (formAsked principals atoms i) s) where
-  at-length : (a : Value Row) → judged (rowRefusal formKinds principals atoms i) (rowIn formKinds (q .value)) ≡ a
-      → judged (rowRefusal formKinds principals atoms (length (k .before))) (rowIn formKinds (q .value)) ≡ a
-  at-length a e = subst (λ j. judged (rowRefusal formKinds principals atoms j) (rowIn formKinds (q .value)) ≡ a) (sym (k .count)) e
+  at-length : (a : Value Row) → shapedAs (rowRefusal formKinds principals atoms i) (rowIn formKinds (q .value)) ≡ a
+      → shapedAs (rowRefusal formKinds principals atoms (length (k .before))) (rowIn formKinds (q .value)) ≡ a
+  at-length a e = subst (λ j. shapedAs (rowRefusal formKinds principals atoms j) (rowIn formKinds (q .value)) ≡ a) (sym (k .count)) e
 
   pub form-stops : {X : List Row → List ℕ → Type 0} (j : ℕ) → q .answer ≡ RowLine.Refused j → (x : Refusal) → x ≡ refusalIs j (5 + i)
       → (Section.Refused x ≡ sectionOf (length text) (many (formItem principals atoms) n [] text)) ×
@@ -138,12 +138,12 @@ module _ (principals atoms : ℕ) {n : ℕ} {text : List ℕ} {len : ℕ} {numbe
   form-stops j e x d =
       turn-stops formEntry (formItem principals atoms) n text k h j (5 + i)
       (row-bad "form=" formKinds (formRefusal principals atoms (k .before)) s (q .value) (q .part) no-form (5 + length (k .before)) j
-      (at-length (out j) (out-row (judged (rowRefusal formKinds principals atoms i) (rowIn formKinds (q .value))) j (sym (q .about) ∙ e))) ∙
+      (at-length (out j) (out-row (shapedAs (rowRefusal formKinds principals atoms i) (rowIn formKinds (q .value))) j (sym (q .about) ∙ e))) ∙
       ap (λ m. bad j (5 + m)) (k .count)) x d
 
   module _ (a l r : ℕ) (e : q .answer ≡ RowLine.Row a l r) where
-    form-is : judged (rowRefusal formKinds principals atoms i) (rowIn formKinds (q .value)) ≡ val (row a l r)
-    form-is = val-row (judged (rowRefusal formKinds principals atoms i) (rowIn formKinds (q .value))) a l r (sym (q .about) ∙ e)
+    form-is : shapedAs (rowRefusal formKinds principals atoms i) (rowIn formKinds (q .value)) ≡ val (row a l r)
+    form-is = val-row (shapedAs (rowRefusal formKinds principals atoms i) (rowIn formKinds (q .value))) a l r (sym (q .about) ∙ e)
 
     pub form-behind : Behind s (length (q .value) + 6)
     form-behind = row-behind "form=" formKinds (rowRefusal formKinds principals atoms i) s (q .value) (q .part) no-form a l r form-is
@@ -160,7 +160,7 @@ module _ (principals atoms : ℕ) {n : ℕ} {text : List ℕ} {len : ℕ} {numbe
 
 -- And over `clause=` lines.
 abbrev pub clauseAsked : List ℕ → ℕ → List ℕ → NumberLine
-clauseAsked classes formulas v = numberLineOf (judged (classRefusal policyIn classes formulas) (number v))
+clauseAsked classes formulas v = numberLineOf (shapedAs (classRefusal policyIn classes formulas) (number v))
 
 module _ (classes : List ℕ) (formulas : ℕ) {n : ℕ} {text : List ℕ} {len : ℕ} {numbers s : List ℕ} {i : ℕ}
     (k : Turns lineEntry (classedItem classes formulas) n text len numbers s i) (h : i < n)
@@ -188,7 +188,7 @@ module _ (classes : List ℕ) (formulas : ℕ) {n : ℕ} {text : List ℕ} {len 
 
 -- And over `step=` lines, whose steps stand in the table as pairs.
 abbrev pub stepAsked : List ℕ → StepLine
-stepAsked v = stepLineOf (judged stepRefusal (rowIn stepKinds v))
+stepAsked v = stepLineOf (shapedAs stepRefusal (rowIn stepKinds v))
 
 module _ (formulas clauses : ℕ) {n : ℕ} {text : List ℕ} {len : ℕ} {numbers s : List ℕ} {i : ℕ}
     (k : Turns stepEntry (stepItem formulas clauses) n text len numbers s i) (h : i < n) (q : Line-asked "step=" stepAsked s) where
@@ -200,7 +200,7 @@ module _ (formulas clauses : ℕ) {n : ℕ} {text : List ℕ} {len : ℕ} {numbe
       let place : stepAt formulas clauses (suc (length (k .before))) ≡ 8 + formulas + clauses + i = omega (arith, k .count) in
       turn-stops stepEntry (stepItem formulas clauses) n text k h j (8 + formulas + clauses + i)
       (row-bad "step=" stepKinds stepRefusal s (q .value) (q .part) no-step (stepAt formulas clauses (suc (length (k .before)))) j
-      (out-step (judged stepRefusal (rowIn stepKinds (q .value))) j (sym (q .about) ∙ e)) ∙ ap (λ m. bad j m) place) x d
+      (out-step (shapedAs stepRefusal (rowIn stepKinds (q .value))) j (sym (q .about) ∙ e)) ∙ ap (λ m. bad j m) place) x d
 
   module _ (x : Step) (e : q .answer ≡ StepLine.Step x) where
     found : Step-row (rowIn stepKinds (q .value)) x
@@ -222,27 +222,27 @@ module _ (formulas clauses : ℕ) {n : ℕ} {text : List ℕ} {len : ℕ} {numbe
 -- The first four lines.
 module _ (s : List ℕ) where
   pub head-1 : (k i : ℕ) → line versionLine versionRefusal versionAt s ≡ bad k i → headPart s ≡ bad k i
-  unfolding headPart _>>=_ after
+  unfolding headPart _>>=_ andThen
   head-1 k i a = rw a refl
 
   module _ (v : ℕ) (s₁ : List ℕ) (a : line versionLine versionRefusal versionAt s ≡ ok v s₁) where
     pub head-2 : (k i : ℕ) → line principalsLine principalsRefusal principalsAt s₁ ≡ bad k i → headPart s ≡ bad k i
-    unfolding headPart _>>=_ after
+    unfolding headPart _>>=_ andThen
     head-2 k i b = rw a (rw b refl)
 
     module _ (p : ℕ) (s₂ : List ℕ) (b : line principalsLine principalsRefusal principalsAt s₁ ≡ ok p s₂) where
       pub head-3 : (k i : ℕ) → line atomsLine atomsRefusal atomsAt s₂ ≡ bad k i → headPart s ≡ bad k i
-      unfolding headPart _>>=_ after
+      unfolding headPart _>>=_ andThen
       head-3 k i c = rw a (rw b (rw c refl))
 
       module _ (n : ℕ) (s₃ : List ℕ) (c : line atomsLine atomsRefusal atomsAt s₂ ≡ ok n s₃) where
         pub head-4 : (k i : ℕ) → line formulasLine formulasRefusal formulasAt s₃ ≡ bad k i → headPart s ≡ bad k i
-        unfolding headPart _>>=_ after
+        unfolding headPart _>>=_ andThen
         head-4 k i d = rw a (rw b (rw c (rw d refl)))
 
         pub head-5 : (f : ℕ) (s₄ : List ℕ) → line formulasLine formulasRefusal formulasAt s₃ ≡ ok f s₄
             → headPart s ≡ ok record { principals = p; atoms = n; formulas = f } s₄
-        unfolding headPart _>>=_ after
+        unfolding headPart _>>=_ andThen
         head-5 f s₄ d = rw a (rw b (rw c (rw d refl)))
 
 module _ (n : ℕ) (r : Read Counted) where

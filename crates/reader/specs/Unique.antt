@@ -2,7 +2,7 @@
 use Prim.Native.Nat.{ℕ}
 use mathlib.Core.Path.{_≡_, sym, _∙_}
 use mathlib.Core.List.{List}
-use Rattle.scope.specs.Calls.{reading, formTableAfter, lineTableAfter, stepTableAfter}
+use Rattle.scope.specs.Call.Calls.{reading, formTableAfter, lineTableAfter, stepTableAfter}
 use Rattle.reader.specs.Answers.{readingOf}
 use Rattle.reader.specs.declared.Reading.{Reading}
 

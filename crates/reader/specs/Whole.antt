@@ -3,22 +3,22 @@ use Prim.Native.Nat.{ℕ}
 use mathlib.Core.Path.{_≡_, refl, sym, _∙_}
 use mathlib.Core.List.{List, []}
 use lib.ListN.{length}
-use Rattle.scope.specs.Request.{Row, Request}
-use Rattle.scope.specs.Line.{Read, ok, bad, Reader, line, many, counted, done, after, _>>=_}
-use Rattle.scope.specs.Refusals.{versionRefusal, principalsRefusal, atomsRefusal, formulasRefusal, clausesRefusal, goalRefusal}
+use Rattle.scope.specs.File.Request.{Row, Request}
+use Rattle.scope.specs.File.Line.{Read, ok, bad, Reader, line, many, counted, done, andThen, _>>=_}
+use Rattle.scope.specs.File.Refusals.{versionRefusal, principalsRefusal, atomsRefusal, formulasRefusal, clausesRefusal, goalRefusal}
 use Rattle.scope.specs.Limits.{versionAt, principalsAt, atomsAt, formulasAt, clausesAt, goalAt}
-use Rattle.scope.specs.Text.{versionLine, principalsLine, atomsLine, formulasLine, clausesLine, goalLine}
-use Rattle.scope.specs.Reader.{formItem, clauseItem, stepItem, requestLines}
+use Rattle.scope.specs.File.Text.{versionLine, principalsLine, atomsLine, formulasLine, clausesLine, goalLine}
+use Rattle.scope.specs.File.Reader.{formItem, clauseItem, stepItem, requestLines}
 use Rattle.reader.specs.Sections.{Formulas, PolicyRead, headPart, formulasPart, policyPart, stepsPart}
 use Rattle.reader.specs.Many.{Ends, done-ends, line-ends, seq-ends, many-ends}
 
-after-assoc : {A B C : Type 0} (r : Read A) (f : A → Reader B) (g : B → Reader C) → after (after r f) g ≡ after r (λ a s. after (f a s) g)
-unfolding after
+after-assoc : {A B C : Type 0} (r : Read A) (f : A → Reader B) (g : B → Reader C) → andThen (andThen r f) g ≡ andThen r (λ a s. andThen (f a s) g)
+unfolding andThen
 after-assoc (ok a s) f g = refl
 after-assoc (bad k i) f g = refl
 
-abbrev pub requestOf : Formulas → PolicyRead → List Row → Request
-requestOf f p steps =
+abbrev pub requestWith : Formulas → PolicyRead → List Row → Request
+requestWith f p steps =
     record { principals = f .principals; atoms = f .atoms; forms = f .forms; lines = p .lines; goal = p .goal; steps = steps }
 
 unfoldable pub sections : Reader Request
@@ -27,40 +27,40 @@ sections = do
   f ← formulasPart
   p ← policyPart (f .forms)
   steps ← stepsPart (length (f .forms)) (length (p .lines))
-  done (requestOf f p steps)
+  done (requestWith f p steps)
 
 -- What follows the formulas, and what follows the policy.
 abbrev stepsThen : Formulas → PolicyRead → Reader Request
-stepsThen f p s = after (stepsPart (length (f .forms)) (length (p .lines)) s) (λ steps. done (requestOf f p steps))
+stepsThen f p s = andThen (stepsPart (length (f .forms)) (length (p .lines)) s) (λ steps. done (requestWith f p steps))
 
 abbrev policyThen : Formulas → Reader Request
 policyThen f s =
-    after (counted clausesLine clausesRefusal (clausesAt (length (f .forms))) (clauseItem (f .forms)) s)
-    (λ lines t. after (line goalLine (goalRefusal (f .forms)) (goalAt (length (f .forms)) (length lines)) t)
+    andThen (counted clausesLine clausesRefusal (clausesAt (length (f .forms))) (clauseItem (f .forms)) s)
+    (λ lines t. andThen (line goalLine (goalRefusal (f .forms)) (goalAt (length (f .forms)) (length lines)) t)
     (λ goal. stepsThen f record { lines = lines; goal = goal }))
 
-policy-then : (f : Formulas) (s : List ℕ) → after (policyPart (f .forms) s) (stepsThen f) ≡ policyThen f s
-unfolding policyPart counted _>>=_ after
+policy-then : (f : Formulas) (s : List ℕ) → andThen (policyPart (f .forms) s) (stepsThen f) ≡ policyThen f s
+unfolding policyPart counted _>>=_ andThen
 policy-then f s = simp after-assoc
 
-formulas-then : {B : Type 0} (g : Formulas → Reader B) (s : List ℕ) → after (formulasPart s) g
-    ≡ after (line versionLine versionRefusal versionAt s)
-    (λ version s₁. after (line principalsLine principalsRefusal principalsAt s₁)
-    (λ principals s₂. after (line atomsLine atomsRefusal atomsAt s₂)
-    (λ atoms s₃. after (line formulasLine formulasRefusal formulasAt s₃)
-    (λ n s₄. after (many (formItem principals atoms) n [] s₄) (λ forms. g record { principals = principals; atoms = atoms; forms = forms })))))
-unfolding formulasPart headPart _>>=_ after
+formulas-then : {B : Type 0} (g : Formulas → Reader B) (s : List ℕ) → andThen (formulasPart s) g
+    ≡ andThen (line versionLine versionRefusal versionAt s)
+    (λ version s₁. andThen (line principalsLine principalsRefusal principalsAt s₁)
+    (λ principals s₂. andThen (line atomsLine atomsRefusal atomsAt s₂)
+    (λ atoms s₃. andThen (line formulasLine formulasRefusal formulasAt s₃)
+    (λ n s₄. andThen (many (formItem principals atoms) n [] s₄) (λ forms. g record { principals = principals; atoms = atoms; forms = forms })))))
+unfolding formulasPart headPart _>>=_ andThen
 formulas-then g s = simp after-assoc
 
 pub request-sections : (s : List ℕ) → requestLines s ≡ sections s
-unfolding requestLines sections counted _>>=_ after
+unfolding requestLines sections counted _>>=_ andThen
 request-sections s =
     sym
-    ((λ i. after (formulasPart s) (λ f t. policy-then f t i)) ∙
+    ((λ i. andThen (formulasPart s) (λ f t. policy-then f t i)) ∙
     formulas-then policyThen s ∙
-    (λ i. after (line versionLine versionRefusal versionAt s)
-    (λ version s₁. after (line principalsLine principalsRefusal principalsAt s₁)
-    (λ principals s₂. after (line atomsLine atomsRefusal atomsAt s₂)
+    (λ i. andThen (line versionLine versionRefusal versionAt s)
+    (λ version s₁. andThen (line principalsLine principalsRefusal principalsAt s₁)
+    (λ principals s₂. andThen (line atomsLine atomsRefusal atomsAt s₂)
     (λ atoms s₃. sym (after-assoc (line formulasLine formulasRefusal formulasAt s₃) (λ n. many (formItem principals atoms) n [])
     (λ forms. policyThen record { principals = principals; atoms = atoms; forms = forms })) i)))))
 

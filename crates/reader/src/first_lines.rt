@@ -5,16 +5,16 @@ use lines::Number;
 ghost use mathlib.Core.Path.{_≡_};
 ghost use Prim.Native.Nat.{_≤_};
 ghost use lib.ListN.{length};
-ghost use Rattle.scope.specs.Number.{number};
-ghost use Rattle.scope.specs.Line.{judged};
-ghost use Rattle.scope.specs.Refusals.{countRefusal};
+ghost use Rattle.scope.specs.File.Number.{number};
+ghost use Rattle.scope.specs.File.Line.{shapedAs};
+ghost use Rattle.scope.specs.File.Refusals.{countRefusal};
 ghost use Rattle.lines.specs.Parts.{valueOf};
 ghost use Rattle.reader.specs.Answers.{numberLineOf, headOf, formulaCount};
 ghost use Rattle.reader.specs.Sections.{headPart};
 
 // A line with a count between `least` and `most`.
 pub(crate) fn count_line(text: &[u8], key: &[u8], least: u16, most: u16) -> NumberLine
-    ensures { λ r. ⌜ r ≡ numberLineOf (judged (countRefusal least most) (number (valueOf (now (key .entry)) (now (text .entry))))) ⌝ }
+    ensures { λ r. ⌜ r ≡ numberLineOf (shapedAs (countRefusal least most) (number (valueOf (now (key .entry)) (now (text .entry))))) ⌝ }
 {
     let value = lines::value_of(text, key);
     let got = lines::read_number(value);

@@ -8,18 +8,18 @@ ghost use Prim.Native.Nat.{_≤_};
 ghost use mathlib.Core.List.{List, []};
 ghost use Prim.Native.Nat.{ℕ};
 ghost use lib.ListN.{length, replicate};
-ghost use Rattle.scope.specs.Line.{judged, many, ok};
-ghost use Rattle.scope.specs.Kinds.{formKinds, rowIn};
-ghost use Rattle.scope.specs.Refusals.{rowRefusal};
-ghost use Rattle.scope.specs.Request.{Row as FormRow};
-ghost use Rattle.scope.specs.Reader.{formItem};
-ghost use Rattle.scope.specs.Tables.{table, formEntry};
+ghost use Rattle.scope.specs.File.Line.{shapedAs, many, ok};
+ghost use Rattle.scope.specs.File.Kinds.{formKinds, rowIn};
+ghost use Rattle.scope.specs.File.Refusals.{rowRefusal};
+ghost use Rattle.scope.specs.File.Request.{Row as FormRow};
+ghost use Rattle.scope.specs.File.Reader.{formItem};
+ghost use Rattle.scope.specs.Call.Tables.{table, formEntry};
 ghost use Rattle.reader.specs.Answers.{rowLineOf, sectionOf, formulasOf, formulaCount};
 ghost use Rattle.reader.specs.Sections.{Formulas, formulasPart};
 
 // The value of a `form=` line.
 fn form_line(value: &[u8], principals: u16, atoms: u16, formula: u16) -> RowLine
-    ensures { λ r. ⌜ r ≡ rowLineOf (judged (rowRefusal formKinds principals atoms formula) (rowIn formKinds (now (value .entry)))) ⌝ }
+    ensures { λ r. ⌜ r ≡ rowLineOf (shapedAs (rowRefusal formKinds principals atoms formula) (rowIn formKinds (now (value .entry)))) ⌝ }
 {
     let got = lines::form_row(value);
     let Row::Items(kind, left, right) = got else {

@@ -2,10 +2,10 @@
 ghost use mathlib.Core.Path.{_≡_};
 ghost use Prim.Native.Nat.{_≤_};
 ghost use lib.ListN.{length, replicate};
-ghost use Rattle.scope.specs.Request.{Request};
-ghost use Rattle.scope.specs.Reader.{read, readRequest};
-ghost use Rattle.scope.specs.Tables.{table, formEntry, lineEntry, stepEntry, hasRoom};
-ghost use Rattle.scope.specs.Calls.{reading, formTableAfter, lineTableAfter, stepTableAfter};
+ghost use Rattle.scope.specs.File.Request.{Request};
+ghost use Rattle.scope.specs.File.Reader.{read, readRequest};
+ghost use Rattle.scope.specs.Call.Tables.{table, formEntry, lineEntry, stepEntry, hasRoom};
+ghost use Rattle.scope.specs.Call.Calls.{reading, formTableAfter, lineTableAfter, stepTableAfter};
 ghost use Rattle.reader.specs.Answers.{refusalIs, numberRefusal, rowRefused, stepRefused, sectionRefused, headRefused, policyRefused, stepsRefused, readingOf};
 use counts::Counts;
 use counts::Refusal;

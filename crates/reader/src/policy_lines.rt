@@ -7,19 +7,19 @@ ghost use mathlib.Core.Path.{_≡_};
 ghost use Prim.Native.Nat.{ℕ, _≤_};
 ghost use mathlib.Core.List.{List, []};
 ghost use lib.ListN.{length, getD, replicate};
-ghost use Rattle.scope.specs.Bytes.{bytes};
-ghost use Rattle.scope.specs.Number.{number};
-ghost use Rattle.scope.specs.Line.{judged, many, ok};
-ghost use Rattle.scope.specs.Tables.{table, unpack, formEntry, lineEntry};
+ghost use Rattle.scope.specs.File.Bytes.{bytes};
+ghost use Rattle.scope.specs.File.Number.{number};
+ghost use Rattle.scope.specs.File.Line.{shapedAs, many, ok};
+ghost use Rattle.scope.specs.Call.Tables.{table, unpack, formEntry, lineEntry};
 ghost use Rattle.classes.specs.Class.{goalIn, policyIn};
 ghost use Rattle.lines.specs.Parts.{valueOf};
-ghost use Rattle.reader.specs.Answers.{numberLineOf, sectionOf, policyOf};
+ghost use Rattle.reader.specs.Answers.{numberLineOf, sectionOf, policySection};
 ghost use Rattle.refusals.specs.Rows.{classRefusal};
 ghost use Rattle.reader.specs.Sections.{belowRefusal, classedItem, PolicyRead, policyPart};
 
 // The value of a line with a formula number.
 fn formula_line(value: &[u8], formulas: u16) -> NumberLine
-    ensures { λ r. ⌜ r ≡ numberLineOf (judged (belowRefusal formulas) (number (now (value .entry)))) ⌝ }
+    ensures { λ r. ⌜ r ≡ numberLineOf (shapedAs (belowRefusal formulas) (number (now (value .entry)))) ⌝ }
 {
     let got = lines::read_number(value);
     let Number::Value(n) = got else {
@@ -40,7 +40,7 @@ fn class_in(classes: &[u8], formula: u16) -> u8
 
 // The value of a `clause=` line.
 fn clause_line(value: &[u8], formulas: u16, classes: &[u8]) -> NumberLine
-    ensures { λ r. ⌜ r ≡ numberLineOf (judged (classRefusal policyIn (now (classes .entry)) formulas) (number (now (value .entry)))) ⌝ }
+    ensures { λ r. ⌜ r ≡ numberLineOf (shapedAs (classRefusal policyIn (now (classes .entry)) formulas) (number (now (value .entry)))) ⌝ }
 {
     let got = formula_line(value, formulas);
     let NumberLine::Number(f) = got else {
@@ -54,7 +54,7 @@ fn clause_line(value: &[u8], formulas: u16, classes: &[u8]) -> NumberLine
 }
 
 fn goal_line(text: &[u8], formulas: u16, classes: &[u8]) -> NumberLine
-    ensures { λ r. ⌜ r ≡ numberLineOf (judged (classRefusal goalIn (now (classes .entry)) formulas) (number (valueOf (bytes "goal=") (now (text .entry))))) ⌝ }
+    ensures { λ r. ⌜ r ≡ numberLineOf (shapedAs (classRefusal goalIn (now (classes .entry)) formulas) (number (valueOf (bytes "goal=") (now (text .entry))))) ⌝ }
 {
     let value = lines::value_of(text, b"goal=");
     let got = formula_line(value, formulas);
@@ -101,7 +101,7 @@ fn read_clauses(
 
 pub(crate) fn read_policy(text: &[u8], formulas: u16, forms: &[u16], policy: &mut [u16]) -> Policy
     requires { ⌜ (formulas ≤ 1024) × (128 ≤ length (now policy)) × (now policy ≡ replicate (length (now policy)) 0) ⌝ }
-    ensures { λ r. ⌜ r ≡ policyOf (length (now (text .entry))) (policyPart (unpack formEntry formulas (now (forms .entry))) (now (text .entry))) ⌝ }
+    ensures { λ r. ⌜ r ≡ policySection (length (now (text .entry))) (policyPart (unpack formEntry formulas (now (forms .entry))) (now (text .entry))) ⌝ }
     ensures { λ r. ⌜ ((p : PolicyRead) (rest : List ℕ) → policyPart (unpack formEntry formulas (now (forms .entry))) (now (text .entry)) ≡ ok p rest → now (policy .exit) ≡ table lineEntry (length (now (policy .entry))) (p .lines)) ⌝ }
 {
     let count = crate::first_lines::count_line(text, b"clauses=", 0, 128);

@@ -8,18 +8,18 @@ ghost use mathlib.Core.Path.{_≡_};
 ghost use Prim.Native.Nat.{ℕ, _≤_};
 ghost use mathlib.Core.List.{List, []};
 ghost use lib.ListN.{length, replicate};
-ghost use Rattle.scope.specs.Line.{judged, many, ok};
-ghost use Rattle.scope.specs.Kinds.{stepKinds, rowIn};
-ghost use Rattle.scope.specs.Refusals.{stepRefusal};
-ghost use Rattle.scope.specs.Request.{Row as StepRow};
-ghost use Rattle.scope.specs.Reader.{stepItem};
-ghost use Rattle.scope.specs.Tables.{table, stepEntry};
-ghost use Rattle.reader.specs.Answers.{stepLineOf, sectionOf, stepsOf};
+ghost use Rattle.scope.specs.File.Line.{shapedAs, many, ok};
+ghost use Rattle.scope.specs.File.Kinds.{stepKinds, rowIn};
+ghost use Rattle.scope.specs.File.Refusals.{stepRefusal};
+ghost use Rattle.scope.specs.File.Request.{Row as StepRow};
+ghost use Rattle.scope.specs.File.Reader.{stepItem};
+ghost use Rattle.scope.specs.Call.Tables.{table, stepEntry};
+ghost use Rattle.reader.specs.Answers.{stepLineOf, sectionOf, stepSection};
 ghost use Rattle.reader.specs.Sections.{stepsPart};
 
 // The value of a `step=` line.
 fn step_line(value: &[u8]) -> StepLine
-    ensures { λ r. ⌜ r ≡ stepLineOf (judged stepRefusal (rowIn stepKinds (now (value .entry)))) ⌝ }
+    ensures { λ r. ⌜ r ≡ stepLineOf (shapedAs stepRefusal (rowIn stepKinds (now (value .entry)))) ⌝ }
 {
     let got = lines::step_row(value);
     let Row::Items(kind, left, right) = got else {
@@ -65,7 +65,7 @@ fn read_steps(text: &[u8], formulas: u16, clauses: u16, count: u16, steps: &mut 
 
 pub(crate) fn read_proof(text: &[u8], formulas: u16, clauses: u16, steps: &mut [u16]) -> Steps
     requires { ⌜ (4096 ≤ length (now steps)) × (now steps ≡ replicate (length (now steps)) 0) ⌝ }
-    ensures { λ r. ⌜ r ≡ stepsOf (length (now (text .entry))) (stepsPart formulas clauses (now (text .entry))) ⌝ }
+    ensures { λ r. ⌜ r ≡ stepSection (length (now (text .entry))) (stepsPart formulas clauses (now (text .entry))) ⌝ }
     ensures { λ r. ⌜ ((rows : List StepRow) (rest : List ℕ) → stepsPart formulas clauses (now (text .entry)) ≡ ok rows rest → now (steps .exit) ≡ table stepEntry (length (now (steps .entry))) rows) ⌝ }
 {
     let line = crate::first_lines::count_line(text, b"steps=", 1, 2048);

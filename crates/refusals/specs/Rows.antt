@@ -7,11 +7,11 @@ use mathlib.Core.List.{List}
 use lib.Dec.{ltb, leb, eqb}
 use lib.ListN.{getD}
 use borrow.Author.Tests.{le-ltb, ltb-true, ltb-false, leb-true, eqb-true, eqb-false}
-use Rattle.scope.specs.Form.{both}
-use Rattle.scope.specs.Tests.{both-true, both-yes}
-use Rattle.scope.specs.Request.{Row}
-use Rattle.scope.specs.Kinds.{kindIn, formKinds, stepKinds}
-use Rattle.scope.specs.Refusals.{demand, inRange, isEarlier, pass, restZero, rowRefusal, stepRefusal}
+use Rattle.scope.specs.Logic.Form.{both}
+use Rattle.scope.specs.Tools.Tests.{both-true, both-yes}
+use Rattle.scope.specs.File.Request.{Row}
+use Rattle.scope.specs.File.Kinds.{kindIn, formKinds, stepKinds}
+use Rattle.scope.specs.File.Refusals.{demand, inRange, isEarlier, pass, restZero, rowRefusal, stepRefusal}
 
 abbrev pub row : ℕ → ℕ → ℕ → Row
 row k l r = record { kind = k; left = l; right = r }

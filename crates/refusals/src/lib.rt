@@ -1,8 +1,8 @@
 // The refusals of a row, whether it stands in a line of the file or in a lent table: 3 before 4, and 0 where there is none.
 ghost use mathlib.Core.Path.{_≡_};
-ghost use Rattle.scope.specs.Form.{both};
-ghost use Rattle.scope.specs.Kinds.{formKinds};
-ghost use Rattle.scope.specs.Refusals.{demand, rowRefusal, stepRefusal};
+ghost use Rattle.scope.specs.Logic.Form.{both};
+ghost use Rattle.scope.specs.File.Kinds.{formKinds};
+ghost use Rattle.scope.specs.File.Refusals.{demand, rowRefusal, stepRefusal};
 ghost use Rattle.refusals.specs.Rows.{row};
 
 fn both_of(a: bool, b: bool) -> bool

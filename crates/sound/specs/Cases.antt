@@ -6,12 +6,12 @@ use mathlib.Core.Bool.{Bool, true, false}
 use mathlib.Core.List.{List, [], _∷_, map}
 use native.Mathlib.Omega.{arith}
 use lib.Dec.{eqb}
-use Rattle.scope.specs.Form.{Form, atom, imp, says, sf, both, either, negate}
-use Rattle.scope.specs.Request.{Row, formula}
+use Rattle.scope.specs.Logic.Form.{Form, atom, imp, says, sf, both, either, negate}
+use Rattle.scope.specs.File.Request.{Row, formula}
 use Rattle.scope.specs.Limits.{mostPrincipals}
-use Rattle.scope.specs.Obligation.{Obligation, Step, start}
-use Rattle.scope.specs.Derivation.{Derivation}
-use Rattle.scope.specs.Models.{Model}
+use Rattle.scope.specs.Logic.Obligation.{Obligation, Step, start}
+use Rattle.scope.specs.Logic.Derivation.{Derivation}
+use Rattle.scope.specs.Logic.Models.{Model}
 use Rattle.sound.specs.Over.{Over}
 use Rattle.sound.specs.Tests.{implies, every, alltrue}
 use Rattle.sound.specs.Computed.{frame, eval, evalAll}

@@ -5,12 +5,12 @@ use mathlib.Core.Path.{_≡_, refl}
 use mathlib.Core.Bool.{Bool, true, false}
 use mathlib.Core.List.{List, [], _∷_}
 use mathlib.Core.Logic.{_↔_, ⊎-map}
-use Rattle.scope.specs.Form as F
-use Rattle.scope.specs.Form.{Form, both, either}
-use Rattle.scope.specs.Models as M
-use Rattle.scope.specs.Models.{Model, Future, Frame, Sat, SatAll}
+use Rattle.scope.specs.Logic.Form as F
+use Rattle.scope.specs.Logic.Form.{Form, both, either}
+use Rattle.scope.specs.Logic.Models as M
+use Rattle.scope.specs.Logic.Models.{Model, Future, Frame, Sat, SatAll}
 use Rattle.sound.specs.Tests.{implies, every, alltrue, each-true}
-use Rattle.scope.specs.Tests.{never, both-true, both-met}
+use Rattle.scope.specs.Tools.Tests.{never, both-true, both-met}
 use Rattle.sound.specs.Tests.{either-true, true-either, implies-so, so-implies, every-at, at-every}
 
 -- Tests over the worlds, pairs of worlds and triples of worlds of a model.

@@ -7,11 +7,11 @@ use mathlib.Core.List.{List, [], _∷_, map}
 use native.Mathlib.Omega.{arith}
 use lib.Dec.{eqb}
 use borrow.Author.Tests.{eq-eqb, ne-eqb}
-use Rattle.scope.specs.Form as F
-use Rattle.scope.specs.Form.{Form}
-use Rattle.scope.specs.Facts.{Fact, le, by, sf}
-use Rattle.scope.specs.Obligation.{Lab, lab, Sequent, withWorld, withFact, withClause, Phase, goal, chunks, focus, behind, Obligation, ob}
-use Rattle.scope.specs.Models.{Model, Sat}
+use Rattle.scope.specs.Logic.Form as F
+use Rattle.scope.specs.Logic.Form.{Form}
+use Rattle.scope.specs.Logic.Facts.{Fact, le, by, sf}
+use Rattle.scope.specs.Logic.Obligation.{Lab, lab, Sequent, withWorld, withFact, withClause, Phase, goal, chunks, focus, behind, Obligation, ob}
+use Rattle.scope.specs.Logic.Models.{Model, Sat}
 use Rattle.sound.specs.Over.{Over, All, all-turn, all-append}
 
 -- ρ with the world v in the place w
@@ -49,8 +49,8 @@ module _ (k n : ℕ) (m : Model) where
   Holds w ρ (sf u a b) = (a < k) × (b < k) × (u < w) × (m .speaks a b (ρ u) ≡ true)
 
   -- A labelled formula is in its bounds, and holds at its world.
-  abbrev pub Fits : ℕ → Lab → Type 0
-  Fits w l = (l .at < w) × Over k n (l .form)
+  abbrev pub AtWorlds : ℕ → Lab → Type 0
+  AtWorlds w l = (l .at < w) × Over k n (l .form)
 
   abbrev pub Meets : (ℕ → ℕ) → Lab → Type 0
   Meets ρ l = Sat m (ρ (l .at)) (l .form)
@@ -60,17 +60,17 @@ module _ (k n : ℕ) (m : Model) where
     pub counted : s .principals ≡ k
     pub inside : (x : ℕ) → ρ x < m .worlds
     pub facts : All (Holds (s .worlds) ρ) (s .facts)
-    pub clauses : All (λ (l : Lab). Fits (s .worlds) l × Meets ρ l) (s .clauses)
+    pub clauses : All (λ (l : Lab). AtWorlds (s .worlds) l × Meets ρ l) (s .clauses)
 
   -- A goal is met. With chunks: where they hold, the goal is met. In focus: the subgoals are met, and where the clause holds, so does
   -- the atom aimed at.
   abbrev pub ValidIn : Sequent → Phase → Type 0
-  ValidIn s (goal g) = (ρ : ℕ → ℕ) → Respects s ρ → Fits (s .worlds) g → Meets ρ g
+  ValidIn s (goal g) = (ρ : ℕ → ℕ) → Respects s ρ → AtWorlds (s .worlds) g → Meets ρ g
   ValidIn s (chunks c cs g) =
-      (ρ : ℕ → ℕ) → Respects s ρ → Fits (s .worlds) g →
+      (ρ : ℕ → ℕ) → Respects s ρ → AtWorlds (s .worlds) g →
       All (λ (f : Form). Over k n f × Sat m (ρ (g .at)) f) (c ∷ cs) → Meets ρ g
   ValidIn s (focus d p w met) =
-      (ρ : ℕ → ℕ) → Respects s ρ → Fits (s .worlds) d → Fits (s .worlds) (lab (F.atom p) w) → All (Fits (s .worlds)) met →
+      (ρ : ℕ → ℕ) → Respects s ρ → AtWorlds (s .worlds) d → AtWorlds (s .worlds) (lab (F.atom p) w) → All (AtWorlds (s .worlds)) met →
       All (Meets ρ) met × (Meets ρ d → Meets ρ (lab (F.atom p) w))
 
   abbrev pub Valid : Obligation → Type 0
@@ -86,7 +86,7 @@ module _ (k n : ℕ) (m : Model) where
       (h .0, omega arith, omega arith, rw (put-other ρ w v x (h .1), put-other ρ w v y (h .2)) (h .3))
   older-fact w ρ v (sf x a b) h = (h .0, h .1, omega arith, rw (put-other ρ w v x (h .2)) (h .3))
 
-  older-clause : (w : ℕ) (ρ : ℕ → ℕ) (v : ℕ) (l : Lab) → Fits w l × Meets ρ l → Fits (suc w) l × Meets (put ρ w v) l
+  older-clause : (w : ℕ) (ρ : ℕ → ℕ) (v : ℕ) (l : Lab) → AtWorlds w l × Meets ρ l → AtWorlds (suc w) l × Meets (put ρ w v) l
   older-clause w ρ v l h =
       let i : l .at < w = h .0 .0 in
       ((omega arith, h .0 .1), rw (put-other ρ w v (l .at) i) (h .1))
@@ -100,7 +100,7 @@ module _ (k n : ℕ) (m : Model) where
         facts =
             (h, all-turn (Holds (s .worlds) ρ) (Holds (suc (s .worlds)) (put ρ (s .worlds) v)) (older-fact (s .worlds) ρ v) (s .facts) (r .facts));
         clauses =
-            all-turn (λ l. Fits (s .worlds) l × Meets ρ l) (λ l. Fits (suc (s .worlds)) l × Meets (put ρ (s .worlds) v) l)
+            all-turn (λ l. AtWorlds (s .worlds) l × Meets ρ l) (λ l. AtWorlds (suc (s .worlds)) l × Meets (put ρ (s .worlds) v) l)
             (older-clause (s .worlds) ρ v)
             (s .clauses)
             (r .clauses);
@@ -109,22 +109,22 @@ module _ (k n : ℕ) (m : Model) where
   pub with-fact : (s : Sequent) (ρ : ℕ → ℕ) (f : Fact) → Respects s ρ → Holds (s .worlds) ρ f → Respects (withFact s f) ρ
   with-fact s ρ f r h = record { counted = r .counted; inside = r .inside; facts = (h, r .facts); clauses = r .clauses }
 
-  pub with-clause : (s : Sequent) (ρ : ℕ → ℕ) (l : Lab) → Respects s ρ → Fits (s .worlds) l → Meets ρ l → Respects (withClause s l) ρ
+  pub with-clause : (s : Sequent) (ρ : ℕ → ℕ) (l : Lab) → Respects s ρ → AtWorlds (s .worlds) l → Meets ρ l → Respects (withClause s l) ρ
   with-clause s ρ l r i h =
       record {
         counted = r .counted;
         inside = r .inside;
         facts = r .facts;
-        clauses = all-append (λ l. Fits (s .worlds) l × Meets ρ l) (s .clauses) (l ∷ []) (r .clauses) ((i, h), tt);
+        clauses = all-append (λ l. AtWorlds (s .worlds) l × Meets ρ l) (s .clauses) (l ∷ []) (r .clauses) ((i, h), tt);
       }
 
   -- The goal behind chunks that hold.
-  pub meets-behind : (s : Sequent) (cs : List Form) (g : Lab) → ValidIn s (behind cs g) → (ρ : ℕ → ℕ) → Respects s ρ → Fits (s .worlds) g →
+  pub meets-behind : (s : Sequent) (cs : List Form) (g : Lab) → ValidIn s (behind cs g) → (ρ : ℕ → ℕ) → Respects s ρ → AtWorlds (s .worlds) g →
       All (λ (f : Form). Over k n f × Sat m (ρ (g .at)) f) cs → Meets ρ g
   meets-behind s [] g v ρ r i h = v ρ r i
   meets-behind s (c ∷ cs) g v ρ r i h = v ρ r i h
 
   pub meets-met : (s : Sequent) (met : List Lab) → All Valid (map (λ (g : Lab). ob s (goal g)) met) → (ρ : ℕ → ℕ) → Respects s ρ →
-      All (Fits (s .worlds)) met → All (Meets ρ) met
+      All (AtWorlds (s .worlds)) met → All (Meets ρ) met
   meets-met s [] v ρ r i = tt
   meets-met s (g ∷ met) v ρ r i = (v .0 ρ r (i .0), meets-met s met (v .1) ρ r (i .1))

@@ -4,8 +4,8 @@ use mathlib.Core.Path.{_≡_}
 use mathlib.Core.List.{List, [], _∷_, _++_}
 use mathlib.Core.Option.{some}
 use lib.ListN.{getElem?}
-use Rattle.scope.specs.Tests.{never}
-use Rattle.scope.specs.Form.{Form, atom, top, bot, and, or, imp, says, sf}
+use Rattle.scope.specs.Tools.Tests.{never}
+use Rattle.scope.specs.Logic.Form.{Form, atom, top, bot, and, or, imp, says, sf}
 
 unfoldable pub Over : ℕ → ℕ → Form → Type 0
 Over k n (atom p) = p < n

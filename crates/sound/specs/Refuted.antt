@@ -7,12 +7,12 @@ use mathlib.Core.List.{List, [], _∷_}
 use native.Mathlib.Omega.{arith}
 use lib.Dec.{ltb}
 use borrow.Author.Tests.{ltb-true}
-use Rattle.scope.specs.Tests.{never}
-use Rattle.scope.specs.Form.{Form, negate}
-use Rattle.scope.specs.Obligation.{Obligation, Step, start}
-use Rattle.scope.specs.Derivation.{Derivation}
-use Rattle.scope.specs.Models as M
-use Rattle.scope.specs.Models.{Model, Future, Frame}
+use Rattle.scope.specs.Tools.Tests.{never}
+use Rattle.scope.specs.Logic.Form.{Form, negate}
+use Rattle.scope.specs.Logic.Obligation.{Obligation, Step, start}
+use Rattle.scope.specs.Logic.Derivation.{Derivation}
+use Rattle.scope.specs.Logic.Models as M
+use Rattle.scope.specs.Logic.Models.{Model, Future, Frame}
 use Rattle.sound.specs.Over.{Over, All}
 use Rattle.sound.specs.Sound.{refuted}
 use Rattle.sound.specs.Tests.{alltrue, each-true}

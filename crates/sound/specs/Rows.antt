@@ -6,11 +6,11 @@ use mathlib.Core.Path.{_≡_, refl}
 use mathlib.Core.Bool.{Bool}
 use mathlib.Core.List.{List, [], _∷_, _++_, map}
 use lib.ListN.{getD}
-use Rattle.scope.specs.Form.{Form, top}
-use Rattle.scope.specs.Request.{Row, Request, rowForm, formsAfter, formula}
-use Rattle.scope.specs.Obligation.{Obligation, Step, start}
-use Rattle.scope.specs.Derivation.{Derivation}
-use Rattle.scope.specs.Models.{Entailed}
+use Rattle.scope.specs.Logic.Form.{Form, top}
+use Rattle.scope.specs.File.Request.{Row, Request, rowForm, formsAfter, formula}
+use Rattle.scope.specs.Logic.Obligation.{Obligation, Step, start}
+use Rattle.scope.specs.Logic.Derivation.{Derivation}
+use Rattle.scope.specs.Logic.Models.{Entailed}
 use Rattle.sound.specs.Over.{Over, All, all-append}
 use Rattle.sound.specs.Sound.{sound}
 

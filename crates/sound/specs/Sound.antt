@@ -5,14 +5,14 @@ use mathlib.Core.Path.{refl}
 use mathlib.Core.Bool.{Bool}
 use mathlib.Core.List.{List, [], _∷_, map}
 use native.Mathlib.Omega.{arith}
-use Rattle.scope.specs.Form as F
-use Rattle.scope.specs.Form.{Form}
-use Rattle.scope.specs.Facts.{Fact}
-use Rattle.scope.specs.Obligation.{Lab, lab, Obligation, Step, factOf, rootFacts, start}
-use Rattle.scope.specs.Derivation.{Derivation}
-use Rattle.scope.specs.Models.{Model, Frame, Sat, SatAll, Entailed}
+use Rattle.scope.specs.Logic.Form as F
+use Rattle.scope.specs.Logic.Form.{Form}
+use Rattle.scope.specs.Logic.Facts.{Fact}
+use Rattle.scope.specs.Logic.Obligation.{Lab, lab, Obligation, Step, factOf, rootFacts, start}
+use Rattle.scope.specs.Logic.Derivation.{Derivation}
+use Rattle.scope.specs.Logic.Models.{Model, Frame, Sat, SatAll, Entailed}
 use Rattle.sound.specs.Over.{Over, All}
-use Rattle.sound.specs.Meaning.{Holds, Fits, Meets}
+use Rattle.sound.specs.Meaning.{Holds, AtWorlds, Meets}
 use Rattle.sound.specs.Steps.{derives-sound}
 
 -- At a world x where the policy holds, the root stands for x, and so does every number.
@@ -35,7 +35,7 @@ module _ (k n : ℕ) (m : Model) (x : ℕ) where
   facts-root (f ∷ fs) o h = fact-holds f (rootFacts fs) (o .0) (h .0) (facts-root fs (o .1) (h .1))
 
   clauses-root : (policy : List Form) → All (Over k n) policy → SatAll m x policy →
-      All (λ (l : Lab). Fits k n m 1 l × Meets k n m (λ u. x) l) (map (λ (f : Form). lab f 0) policy)
+      All (λ (l : Lab). AtWorlds k n m 1 l × Meets k n m (λ u. x) l) (map (λ (f : Form). lab f 0) policy)
   unfolding SatAll
   clauses-root [] o h = tt
   clauses-root (f ∷ fs) o h = (((omega arith, o .0), h .0), clauses-root fs (o .1) (h .1))

@@ -7,16 +7,16 @@ use mathlib.Core.Bool.{Bool, true}
 use mathlib.Core.List.{List}
 use mathlib.Core.Logic.{inl, inr, ⊎-elim, ⊎-map}
 use native.Mathlib.Omega.{arith}
-use Rattle.scope.specs.Form as F
-use Rattle.scope.specs.Form.{Form}
-use Rattle.scope.specs.Facts.{Fact, le, by, sf, Rules, Among, here, there, least}
-use Rattle.scope.specs.Obligation.{lab, Sequent, withWorld, withFact, withClause, Obligation, Step}
-use Rattle.scope.specs.Derivation as D
-use Rattle.scope.specs.Derivation.{Has, Rule, Derives, DerivesAll}
-use Rattle.scope.specs.Models as M
-use Rattle.scope.specs.Models.{Model, Frame, Sat}
+use Rattle.scope.specs.Logic.Form as F
+use Rattle.scope.specs.Logic.Form.{Form}
+use Rattle.scope.specs.Logic.Facts.{Fact, le, by, sf, Rules, Among, here, there, least}
+use Rattle.scope.specs.Logic.Obligation.{lab, Sequent, withWorld, withFact, withClause, Obligation, Step}
+use Rattle.scope.specs.Logic.Derivation as D
+use Rattle.scope.specs.Logic.Derivation.{Has, Rule, Derives, DerivesAll}
+use Rattle.scope.specs.Logic.Models as M
+use Rattle.scope.specs.Logic.Models.{Model, Frame, Sat}
 use Rattle.sound.specs.Over.{Over, All, all-place}
-use Rattle.sound.specs.Meaning.{put, put-same, put-other, Reach, again, Holds, Fits, Meets, Respects, Valid}
+use Rattle.sound.specs.Meaning.{put, put-same, put-other, Reach, again, Holds, AtWorlds, Meets, Respects, Valid}
 use Rattle.sound.specs.Meaning.{with-world, with-fact, with-clause, meets-behind, meets-met}
 
 all-among : (P : Fact → Type 0) {fs : List Fact} {f : Fact} → Among fs f → All P fs → P f
@@ -109,7 +109,7 @@ module _ (k n : ℕ) (m : Model) (fr : Frame k n m) where
   rule-sound (D.by-sf {s} {a} {b} {u} h) v = λ ρ r t. facts-hold s ρ (sf u a b) r h .3
   rule-sound (D.by-use {s} {c} {l} e q) v =
       λ ρ r t.
-      let h = all-place (λ l. Fits k n m (s .worlds) l × Meets k n m ρ l) (s .clauses) c l e (r .clauses) in
+      let h = all-place (λ l. AtWorlds k n m (s .worlds) l × Meets k n m ρ l) (s .clauses) c l e (r .clauses) in
       v .0 ρ r (h .0) t tt .1 (h .1)
   rule-sound D.by-left v =
       λ ρ r d t met. let b = v .0 ρ r (d .0, d .1 .0) t met in (b .0, λ h. b .1 (h .0))

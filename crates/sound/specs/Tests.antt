@@ -6,8 +6,8 @@ use mathlib.Core.List.{List, [], _∷_}
 use mathlib.Core.Logic.{_⊎_, inl, inr, ⊎-elim}
 use native.Mathlib.Omega.{arith}
 use native.Mathlib.Nat.{eq-or-lt-of-le}
-use Rattle.scope.specs.Form.{both, either}
-use Rattle.scope.specs.Tests.{never, both-true, both-met}
+use Rattle.scope.specs.Logic.Form.{both, either}
+use Rattle.scope.specs.Tools.Tests.{never, both-true, both-met}
 use Rattle.sound.specs.Over.{All}
 
 -- Tests that stay shut, so that what they test can be read off them.

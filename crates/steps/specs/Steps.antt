@@ -4,9 +4,9 @@ use native.Mathlib.Omega.{arith}
 use mathlib.Core.Path.{_≡_, refl, sym, ap, _∙_}
 use mathlib.Core.List.{List, [], _∷_}
 use lib.ListN.{getD, List·getD-map}
-use Rattle.scope.specs.Request.{Row}
-use Rattle.scope.specs.Obligation as O
-use Rattle.scope.specs.Obligation.{stepOf}
+use Rattle.scope.specs.File.Request.{Row}
+use Rattle.scope.specs.Logic.Obligation as O
+use Rattle.scope.specs.Logic.Obligation.{stepOf}
 use Rattle.steps.specs.declared.Pair.{Pair}
 use Rattle.steps.specs.declared.Step.{Step}
 use Rattle.steps.specs.declared.Step.the-variants.{And, Or1, Or2, Imp, Says, Top, Sf, Use, Left, Right, To, Hit, Push, Split, Case, Absurd, Drop, Note}

@@ -3,13 +3,13 @@ use Prim.Native.Nat.{ℕ, suc}
 use mathlib.Core.List.{List, [], _∷_}
 use lib.ListN.{length}
 use Rattle.refusals.specs.Rows.{classRefusal}
-use Rattle.scope.specs.Request.{Row}
-use Rattle.scope.specs.Answer.{Answer, answer}
+use Rattle.scope.specs.File.Request.{Row}
+use Rattle.scope.specs.Call.Answer.{Answer, answer}
 use Rattle.scope.specs.Limits.{principalsAt, atomsAt, formulasAt, formAt, clauseAt, goalAt, stepsAt, stepAt}
-use Rattle.scope.specs.Refusals.{demand, principalsRefusal, atomsRefusal, formulasRefusal, stepsRefusal, stepRefusal, rowRefusal}
-use Rattle.scope.specs.Kinds.{formKinds}
-use Rattle.scope.specs.Checked.{eachOf}
-use Rattle.scope.specs.Tables.{hasRoom}
+use Rattle.scope.specs.File.Refusals.{demand, principalsRefusal, atomsRefusal, formulasRefusal, stepsRefusal, stepRefusal, rowRefusal}
+use Rattle.scope.specs.File.Kinds.{formKinds}
+use Rattle.scope.specs.Call.Checked.{eachOf}
+use Rattle.scope.specs.Call.Tables.{hasRoom}
 use Rattle.classes.specs.Class.{goalIn, policyIn}
 
 unfoldable pub roomAnswers : ℕ → ℕ → ℕ → List Answer
@@ -29,8 +29,8 @@ formAnswer principals atoms i r = answer (rowRefusal formKinds principals atoms 
 unfoldable pub formAnswers : ℕ → ℕ → List Row → List Answer
 formAnswers principals atoms rows = eachOf (λ before r. formAnswer principals atoms (length before) r) [] rows
 
-unfoldable pub lineAnswers : List ℕ → ℕ → List ℕ → List Answer
-lineAnswers classes formulas fs =
+unfoldable pub policyAnswers : List ℕ → ℕ → List ℕ → List Answer
+policyAnswers classes formulas fs =
     eachOf (λ before f. answer (classRefusal policyIn classes formulas f) (clauseAt formulas (length before))) [] fs
 
 unfoldable pub goalAnswers : List ℕ → ℕ → ℕ → ℕ → ℕ → List Answer

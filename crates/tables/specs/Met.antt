@@ -1,26 +1,26 @@
 -- The answer of a check as the code gives it: `Fine`, which is document 01's number 0, or a refusal with its number and place.
 use Prim.Native.Nat.{ℕ, zero, suc}
 use mathlib.Core.List.{List}
-use Rattle.scope.specs.Answer.{Answer, answer}
-use Rattle.scope.specs.Checked.{firstMet}
-use Rattle.scope.specs.Tables.{Lent}
+use Rattle.scope.specs.Call.Answer.{Answer, answer}
+use Rattle.scope.specs.Call.Checked.{firstMet}
+use Rattle.scope.specs.Call.Tables.{Lent}
 use Rattle.counts.specs.declared.Counts.{Counts}
 use Rattle.tables.specs.declared.Checked.{Checked}
 use Rattle.tables.specs.declared.Checked.the-variants.{Fine, Refused}
 
 -- Document 01's number and place for each case.
-unfoldable pub answerOf : Checked → Answer
-answerOf Fine = answer 0 0
-answerOf (Refused r) = answer (r .number) (r .place)
+unfoldable pub answerIn : Checked → Answer
+answerIn Fine = answer 0 0
+answerIn (Refused r) = answer (r .number) (r .place)
 
 -- The case for a number and a place: 0 is no refusal.
 unfoldable pub checkedOf : Answer → Checked
 checkedOf (answer zero place) = Fine
 checkedOf (answer (suc k) place) = Refused record { number = suc k; place = place }
 
--- 'The first met is the answer, with no other given.'
-unfoldable pub met : List Answer → Checked
-met all = checkedOf (firstMet all)
+-- 'The first metIn is the answer, with no other given.'
+unfoldable pub metIn : List Answer → Checked
+metIn all = checkedOf (firstMet all)
 
 -- Counts and tables as lent.
 abbrev pub lentWith : Counts → List ℕ → List ℕ → List ℕ → Lent

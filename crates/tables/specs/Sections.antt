@@ -10,18 +10,18 @@ use lib.Dec.{ltb}
 use lib.Seq.{drop-cons}
 use native.Mathlib.Numerals.{add-one}
 use borrow.Author.Tests.{ne-eqb}
-use Rattle.scope.specs.Request.{Row}
-use Rattle.scope.specs.Answer.{Answer, answer}
+use Rattle.scope.specs.File.Request.{Row}
+use Rattle.scope.specs.Call.Answer.{Answer, answer}
 use Rattle.scope.specs.Limits.{clauseAt, stepAt}
-use Rattle.scope.specs.Tests.{demand-both}
-use Rattle.scope.specs.Refusals.{demand, stepRefusal}
-use Rattle.scope.specs.Checked.{eachOf, allZero, pastZero}
-use Rattle.scope.specs.Tables.{Lent, Entry, unpack, formEntry, lineEntry, stepEntry}
+use Rattle.scope.specs.Tools.Tests.{demand-both}
+use Rattle.scope.specs.File.Refusals.{demand, stepRefusal}
+use Rattle.scope.specs.Call.Checked.{eachOf, allZero, pastZero}
+use Rattle.scope.specs.Call.Tables.{Lent, Entry, unpack, formEntry, lineEntry, stepEntry}
 use Rattle.classes.specs.Class.{policyIn}
 use Rattle.classes.specs.Rows.{unpack-at, unpack-length, number-at, formRow, form-row}
 use Rattle.tables.specs.MetLaws.{answerAt}
 use Rattle.refusals.specs.Rows.{classRefusal}
-use Rattle.tables.specs.Answers.{formAnswer, formAnswers, lineAnswers, stepAnswers}
+use Rattle.tables.specs.Answers.{formAnswer, formAnswers, policyAnswers, stepAnswers}
 
 each-length : {A : Type 0} (about : List A → A → Answer) (before xs : List A) → length (eachOf about before xs) ≡ length xs
 unfolding eachOf
@@ -62,13 +62,13 @@ pub form-at : (p a n : ℕ) (t : List ℕ) (i : ℕ) → i < n → answerAt (for
 unfolding formAnswers
 form-at p a n t i h = section-at formEntry (formAnswer p a) n t i h ∙ ap (formAnswer p a i) (form-row t i)
 
-pub lines-length : (cs : List ℕ) (m n : ℕ) (t : List ℕ) → length (lineAnswers cs m (unpack lineEntry n t)) ≡ n
-unfolding lineAnswers
+pub lines-length : (cs : List ℕ) (m n : ℕ) (t : List ℕ) → length (policyAnswers cs m (unpack lineEntry n t)) ≡ n
+unfolding policyAnswers
 lines-length cs m n t = section-length lineEntry (λ (i f : ℕ). answer (classRefusal policyIn cs m f) (clauseAt m i)) n t
 
 pub line-at : (cs : List ℕ) (m n : ℕ) (t : List ℕ) (i : ℕ) → i < n →
-    answerAt (lineAnswers cs m (unpack lineEntry n t)) i ≡ answer (classRefusal policyIn cs m (getD t i 0)) (clauseAt m i)
-unfolding lineAnswers
+    answerAt (policyAnswers cs m (unpack lineEntry n t)) i ≡ answer (classRefusal policyIn cs m (getD t i 0)) (clauseAt m i)
+unfolding policyAnswers
 line-at cs m n t i h =
     section-at lineEntry (λ (j f : ℕ). answer (classRefusal policyIn cs m f) (clauseAt m j)) n t i h ∙
     ap (λ (f : ℕ). answer (classRefusal policyIn cs m f) (clauseAt m i)) (number-at t 1 i 0 i (omega arith) (omega arith))

@@ -7,23 +7,23 @@ use mathlib.Core.Bool.{Bool, true, false}
 use borrow.Author.Tests.{ltb-true, leb-true}
 use lib.ListN.{length, getD}
 use lib.Dec.{leb, ltb}
-use Rattle.scope.specs.Form.{both}
-use Rattle.scope.specs.Request.{goalClass, policyClass}
-use Rattle.scope.specs.Answer.{Answer, answer}
+use Rattle.scope.specs.Logic.Form.{both}
+use Rattle.scope.specs.File.Request.{goalClass, policyClass}
+use Rattle.scope.specs.Call.Answer.{Answer, answer}
 use Rattle.scope.specs.Limits.{clausesAt, clauseAt, goalAt, stepsAt, mostFormulas}
-use Rattle.scope.specs.Refusals.{demand, countRefusal, principalsRefusal, atomsRefusal, formulasRefusal, clausesRefusal, clauseRefusal, goalRefusal, stepsRefusal}
-use Rattle.scope.specs.Checked.{eachOf, firstMet, pastZero, checked}
-use Rattle.scope.specs.Tables.{Lent, hasRoom, unpack, formEntry, lineEntry, stepEntry}
+use Rattle.scope.specs.File.Refusals.{demand, countRefusal, principalsRefusal, atomsRefusal, formulasRefusal, clausesRefusal, clauseRefusal, goalRefusal, stepsRefusal}
+use Rattle.scope.specs.Call.Checked.{eachOf, firstMet, pastZero, checked}
+use Rattle.scope.specs.Call.Tables.{Lent, hasRoom, unpack, formEntry, lineEntry, stepEntry}
 use Rattle.classes.specs.Class.{goalIn, policyIn, classTable}
 use Rattle.classes.specs.Rows.{unpack-length}
 use Rattle.classes.specs.Laws.{goal-at, policy-at}
 use Rattle.counts.specs.declared.Refusal.{Refusal}
-use Rattle.tables.specs.Met.{answerOf, checkedOf, met}
+use Rattle.tables.specs.Met.{answerIn, checkedOf, metIn}
 use Rattle.tables.specs.MetLaws.{first-answer, met-stop, met-go, met-front, met-back, met-one, fine-none}
 use Rattle.tables.specs.declared.Checked.{Checked}
 use Rattle.tables.specs.declared.Checked.the-variants.{Fine, Refused}
 use Rattle.refusals.specs.Rows.{classRefusal}
-use Rattle.tables.specs.Answers.{roomAnswers, countAnswers, formAnswers, lineAnswers, goalAnswers, stepAnswers}
+use Rattle.tables.specs.Answers.{roomAnswers, countAnswers, formAnswers, policyAnswers, goalAnswers, stepAnswers}
 
 -- What is asked first: the room.
 abbrev pub roomPart : Lent → List Answer
@@ -36,7 +36,7 @@ formPart t = countAnswers (t .principals) (t .atoms) (t .formulas) ++ formAnswer
 -- The count of policy lines, and those lines.
 abbrev pub linePart : Lent → List ℕ → List Answer
 linePart t classes =
-    (answer (clausesRefusal (t .lines)) (clausesAt (t .formulas)) ∷ []) ++ lineAnswers classes (t .formulas) (unpack lineEntry (t .lines) (t .lineTable))
+    (answer (clausesRefusal (t .lines)) (clausesAt (t .formulas)) ∷ []) ++ policyAnswers classes (t .formulas) (unpack lineEntry (t .lines) (t .lineTable))
 
 -- The goal, the count of steps, and the steps.
 abbrev pub stepPart : Lent → List ℕ → List Answer
@@ -95,14 +95,14 @@ as-counted t =
     (unpack-length lineEntry (t .lines) (t .lineTable)) ∙
     ap (λ (s : ℕ). firstMet (wholeAt t (t .formulas) (t .lines) s)) (unpack-length stepEntry (t .steps) (t .stepTable))
 
-pub checked-parts : (t : Lent) → checkedOf (checked t) ≡ met (roomPart t ++ (formPart t ++ later t))
-unfolding met roomAnswers wholeAt later laterAt
+pub checked-parts : (t : Lent) → checkedOf (checked t) ≡ metIn (roomPart t ++ (formPart t ++ later t))
+unfolding metIn roomAnswers wholeAt later laterAt
 checked-parts t = ap checkedOf (as-counted t)
 
 -- The code's answer says all that document 01's does.
-pub checked-answer : (t : Lent) → answerOf (checkedOf (checked t)) ≡ checked t
-unfolding met
-checked-answer t = ap (λ (a : Answer). answerOf (checkedOf a)) (as-counted t) ∙ first-answer (wholeAt t (t .formulas) (t .lines) (t .steps)) ∙ sym (as-counted t)
+pub checked-answer : (t : Lent) → answerIn (checkedOf (checked t)) ≡ checked t
+unfolding metIn
+checked-answer t = ap (λ (a : Answer). answerIn (checkedOf a)) (as-counted t) ∙ first-answer (wholeAt t (t .formulas) (t .lines) (t .steps)) ∙ sym (as-counted t)
 
 -- The class of a formula below the count, from its class byte.
 class-go : (b : Bool) (test : ℕ → Bool) (classes : List ℕ) (n f : ℕ) (class : Bool) → ltb f n ≡ b →
@@ -127,7 +127,7 @@ goal-refusal t n f h =
 
 pub later-parts : (t : Lent) → t .formulas ≤ mostFormulas →
     later t ≡ linePart t (classTable (t .formTable) (t .formulas)) ++ (stepPart t (classTable (t .formTable) (t .formulas)) ++ pastPart t)
-unfolding later laterAt lineAnswers goalAnswers
+unfolding later laterAt policyAnswers goalAnswers
 later-parts t h =
     let n = t .formulas in
     let forms = unpack formEntry n (t .formTable) in
@@ -148,38 +148,38 @@ count-go true true e = refl
 count-go true false e = let z : _≡_ {A = ℕ} 0 1 = omega arith in absurd (omega arith)
 count-go false c e = absurd (omega arith)
 
-pub formulas-within : (t : Lent) → met (formPart t) ≡ Fine → t .formulas ≤ mostFormulas
+pub formulas-within : (t : Lent) → metIn (formPart t) ≡ Fine → t .formulas ≤ mostFormulas
 unfolding countAnswers countRefusal
 formulas-within t e =
     let counts = met-front (countAnswers (t .principals) (t .atoms) (t .formulas)) (formAnswers (t .principals) (t .atoms) (unpack formEntry (t .formulas) (t .formTable))) e in
-    let fine : met (answer (formulasRefusal (t .formulas)) 4 ∷ []) ≡ Fine =
+    let fine : metIn (answer (formulasRefusal (t .formulas)) 4 ∷ []) ≡ Fine =
     met-back (answer (principalsRefusal (t .principals)) 2 ∷ answer (atomsRefusal (t .atoms)) 3 ∷ []) (answer (formulasRefusal (t .formulas)) 4 ∷ []) counts in
     let none = fine-none (formulasRefusal (t .formulas)) 4 (sym (met-one (answer (formulasRefusal (t .formulas)) 4)) ∙ fine) in
     leb-true (t .formulas) mostFormulas (count-go (leb 1 (t .formulas)) (leb (t .formulas) mostFormulas) none)
 
 -- A part of one answer.
 pub room-met : (t : Lent) (g : Checked) →
-    g ≡ checkedOf (answer (demand (hasRoom (length (t .formTable)) (length (t .lineTable)) (length (t .stepTable))) 13 0) 0) → g ≡ met (roomPart t)
+    g ≡ checkedOf (answer (demand (hasRoom (length (t .formTable)) (length (t .lineTable)) (length (t .stepTable))) 13 0) 0) → g ≡ metIn (roomPart t)
 unfolding roomAnswers
 room-met t g e = e ∙ sym (met-one (answer (demand (hasRoom (length (t .formTable)) (length (t .lineTable)) (length (t .stepTable))) 13 0) 0))
 
-pub past-met : (t : Lent) (g : Checked) → g ≡ checkedOf (answer (demand (pastZero t) 3 0) 0) → g ≡ met (pastPart t)
+pub past-met : (t : Lent) (g : Checked) → g ≡ checkedOf (answer (demand (pastZero t) 3 0) 0) → g ≡ metIn (pastPart t)
 past-met t g e = e ∙ sym (met-one (answer (demand (pastZero t) 3 0) 0))
 
 -- Part by part: a part's refusal is the answer, where the parts before it are fine.
-module _ (t : Lent) (room : Checked) (roomed : room ≡ met (roomPart t)) where
+module _ (t : Lent) (room : Checked) (roomed : room ≡ metIn (roomPart t)) where
   pub room-stop : (r : Refusal) → room ≡ Refused r → room ≡ checkedOf (checked t)
   room-stop r e = met-stop (roomPart t) (formPart t ++ later t) room r roomed e ∙ sym (checked-parts t)
 
-  module _ (fine : room ≡ Fine) (forms : Checked) (formed : forms ≡ met (formPart t)) where
+  module _ (fine : room ≡ Fine) (forms : Checked) (formed : forms ≡ metIn (formPart t)) where
     pub forms-stop : (r : Refusal) → forms ≡ Refused r → forms ≡ checkedOf (checked t)
     forms-stop r e =
         met-stop (formPart t) (later t) forms r formed e ∙ met-go (roomPart t) (formPart t ++ later t) room roomed fine ∙ sym (checked-parts t)
 
     pub after-forms : forms ≡ Fine →
-        met (linePart t (classTable (t .formTable) (t .formulas)) ++ (stepPart t (classTable (t .formTable) (t .formulas)) ++ pastPart t)) ≡ checkedOf (checked t)
+        metIn (linePart t (classTable (t .formTable) (t .formulas)) ++ (stepPart t (classTable (t .formTable) (t .formulas)) ++ pastPart t)) ≡ checkedOf (checked t)
     after-forms e =
-        ap met (sym (later-parts t (formulas-within t (sym formed ∙ e)))) ∙
+        ap metIn (sym (later-parts t (formulas-within t (sym formed ∙ e)))) ∙
         met-go (formPart t) (later t) forms formed e ∙
         met-go (roomPart t) (formPart t ++ later t) room roomed fine ∙
         sym (checked-parts t)

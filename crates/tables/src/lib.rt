@@ -1,14 +1,14 @@
 // The checks over counts and lent tables that writer and judge both make: 13; then 3, 4 or 5 at the line where the text would have it;
-// then 3 at place 0 for a nonzero entry past the counts. The first met is the answer.
+// then 3 at place 0 for a nonzero entry past the counts. The first metIn is the answer.
 ghost use mathlib.Core.Path.{_≡_};
 ghost use mathlib.Core.List.{[]};
 ghost use lib.ListN.{drop};
-ghost use Rattle.scope.specs.Answer.{answer};
-ghost use Rattle.scope.specs.Refusals.{demand};
-ghost use Rattle.scope.specs.Checked.{allZero, pastZero, checked};
-ghost use Rattle.scope.specs.Tables.{hasRoom, unpack, formEntry, lineEntry, stepEntry};
-ghost use Rattle.tables.specs.Met.{checkedOf, met, lentWith};
-ghost use Rattle.tables.specs.Answers.{countAnswers, formAnswer, formAnswers, lineAnswers, stepAnswers};
+ghost use Rattle.scope.specs.Call.Answer.{answer};
+ghost use Rattle.scope.specs.File.Refusals.{demand};
+ghost use Rattle.scope.specs.Call.Checked.{allZero, pastZero, checked};
+ghost use Rattle.scope.specs.Call.Tables.{hasRoom, unpack, formEntry, lineEntry, stepEntry};
+ghost use Rattle.tables.specs.Met.{checkedOf, metIn, lentWith};
+ghost use Rattle.tables.specs.Answers.{countAnswers, formAnswer, formAnswers, policyAnswers, stepAnswers};
 ghost use Rattle.refusals.specs.Rows.{row};
 ghost use Rattle.tables.specs.Whole.{formPart, linePart, stepPart};
 use counts::Counts;
@@ -46,7 +46,7 @@ fn room_refusal(forms: usize, lines: usize, steps: usize) -> u16
 }
 
 fn check_counts(principals: u16, atoms: u16, formulas: u16) -> Checked
-    ensures { λ r. ⌜ r ≡ met (countAnswers principals atoms formulas) ⌝ }
+    ensures { λ r. ⌜ r ≡ metIn (countAnswers principals atoms formulas) ⌝ }
 {
     let first = answer_at(rows::count_refusal(1, 16, principals), 2);
     let Checked::Fine = first else {
@@ -76,7 +76,7 @@ fn check_form(principals: u16, atoms: u16, i: u16, kind: u16, left: u16, right: 
 }
 
 fn check_forms(principals: u16, atoms: u16, count: u16, forms: &[u16]) -> Checked
-    ensures { λ r. ⌜ r ≡ met (formAnswers principals atoms (unpack formEntry count (now (forms .entry)))) ⌝ }
+    ensures { λ r. ⌜ r ≡ metIn (formAnswers principals atoms (unpack formEntry count (now (forms .entry)))) ⌝ }
 {
     let mut i: u16 = 0;
     while i < count {
@@ -94,7 +94,7 @@ fn check_forms(principals: u16, atoms: u16, count: u16, forms: &[u16]) -> Checke
 }
 
 fn check_lines(classes: &[u8], formulas: u16, count: u16, lines: &[u16]) -> Checked
-    ensures { λ r. ⌜ r ≡ met (lineAnswers (now (classes .entry)) formulas (unpack lineEntry count (now (lines .entry)))) ⌝ }
+    ensures { λ r. ⌜ r ≡ metIn (policyAnswers (now (classes .entry)) formulas (unpack lineEntry count (now (lines .entry)))) ⌝ }
 {
     let mut i: u16 = 0;
     while i < count {
@@ -110,7 +110,7 @@ fn check_lines(classes: &[u8], formulas: u16, count: u16, lines: &[u16]) -> Chec
 }
 
 fn check_steps(formulas: u16, lines: u16, count: u16, steps: &[u16]) -> Checked
-    ensures { λ r. ⌜ r ≡ met (stepAnswers formulas lines (unpack stepEntry count (now (steps .entry)))) ⌝ }
+    ensures { λ r. ⌜ r ≡ metIn (stepAnswers formulas lines (unpack stepEntry count (now (steps .entry)))) ⌝ }
 {
     let mut i: u16 = 0;
     while i < count {
@@ -154,7 +154,7 @@ fn past_refusal(counts: Counts, forms: &[u16], lines: &[u16], steps: &[u16]) -> 
 
 // The counts of principals, atoms and formulas, then the formulas.
 fn check_formulas(counts: Counts, forms: &[u16]) -> Checked
-    ensures { λ r. ⌜ r ≡ met (formPart (lentWith counts (now (forms .entry)) [] [])) ⌝ }
+    ensures { λ r. ⌜ r ≡ metIn (formPart (lentWith counts (now (forms .entry)) [] [])) ⌝ }
 {
     let count = check_counts(counts.principals, counts.atoms, counts.formulas);
     let Checked::Fine = count else {
@@ -165,7 +165,7 @@ fn check_formulas(counts: Counts, forms: &[u16]) -> Checked
 
 // The count of policy lines, then those lines.
 fn check_policy(counts: Counts, classes: &[u8], lines: &[u16]) -> Checked
-    ensures { λ r. ⌜ r ≡ met (linePart (lentWith counts [] (now (lines .entry)) []) (now (classes .entry))) ⌝ }
+    ensures { λ r. ⌜ r ≡ metIn (linePart (lentWith counts [] (now (lines .entry)) []) (now (classes .entry))) ⌝ }
 {
     let place = 5 + counts.formulas as u32;
     let count = answer_at(rows::count_refusal(0, 128, counts.lines), place);
@@ -177,7 +177,7 @@ fn check_policy(counts: Counts, classes: &[u8], lines: &[u16]) -> Checked
 
 // The goal and the count of steps, then the steps.
 fn check_proof(counts: Counts, classes: &[u8], steps: &[u16]) -> Checked
-    ensures { λ r. ⌜ r ≡ met (stepPart (lentWith counts [] [] (now (steps .entry))) (now (classes .entry))) ⌝ }
+    ensures { λ r. ⌜ r ≡ metIn (stepPart (lentWith counts [] [] (now (steps .entry))) (now (classes .entry))) ⌝ }
 {
     let place = 6 + counts.formulas as u32 + counts.lines as u32;
     let goal = answer_at(

@@ -1,7 +1,7 @@
 // The refusals of a count and of a formula that a line names: 0 where there is none.
 ghost use mathlib.Core.Path.{_≡_};
 ghost use lib.ListN.{getD};
-ghost use Rattle.scope.specs.Refusals.{demand, countRefusal};
+ghost use Rattle.scope.specs.File.Refusals.{demand, countRefusal};
 ghost use Rattle.classes.specs.Class.{goalIn, policyIn};
 ghost use Rattle.refusals.specs.Rows.{classRefusal};
 

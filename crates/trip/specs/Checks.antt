@@ -3,10 +3,10 @@ use Prim.Native.Nat.{ℕ, zero, suc}
 use mathlib.Core.Path.{_≡_, refl, _∙_}
 use mathlib.Core.List.{List, [], _∷_, _++_}
 use lib.ListN.{length}
-use Rattle.scope.specs.Answer.{Answer, answer}
-use Rattle.scope.specs.Request.{Request}
-use Rattle.scope.specs.Checked.{firstMet, eachOf, lineAnswers}
-use Rattle.scope.specs.Tests.{never}
+use Rattle.scope.specs.Call.Answer.{Answer, answer}
+use Rattle.scope.specs.File.Request.{Request}
+use Rattle.scope.specs.Call.Checked.{firstMet, eachOf, lineAnswers}
+use Rattle.scope.specs.Tools.Tests.{never}
 use Rattle.trip.specs.Several.{Two, two, Each, none-left, one-more}
 use Rattle.trip.specs.File.{Unrefused}
 

@@ -7,11 +7,11 @@ use mathlib.Core.Option.{some}
 use native.Mathlib.Omega.{arith}
 use lib.Dec.{eqb, ltb}
 use borrow.Author.Tests.{eqb-true, eq-eqb, ne-eqb, not-true}
-use Rattle.scope.specs.Form.{both}
-use Rattle.scope.specs.Number.{digit, numeral}
-use Rattle.scope.specs.Line.{Cut, parts, uncut, cut, cutAfter, strip}
-use Rattle.scope.specs.Kinds.{ontoFirst, items, spaced}
-use Rattle.scope.specs.Tests.{never, both-true, both-met, taken}
+use Rattle.scope.specs.Logic.Form.{both}
+use Rattle.scope.specs.File.Number.{digit, numeral}
+use Rattle.scope.specs.File.Line.{Cut, parts, uncut, cut, cutAfter, strip}
+use Rattle.scope.specs.File.Kinds.{ontoFirst, items, spaced}
+use Rattle.scope.specs.Tools.Tests.{never, both-true, both-met, taken}
 
 -- No byte b stands in a text.
 unfoldable pub free : ℕ → List ℕ → Bool

@@ -8,14 +8,14 @@ use native.Mathlib.Omega.{arith}
 use lib.Dec.{leb, eqb}
 use lib.ListN.{length, drop}
 use borrow.Author.Tests.{leb-true, eqb-true}
-use Rattle.scope.specs.Form.{both}
-use Rattle.scope.specs.Request.{Row, Request}
-use Rattle.scope.specs.Kinds.{Sort, Kind, kindIn, stepKinds}
-use Rattle.scope.specs.Refusals.{restZero, stepRefusal}
-use Rattle.scope.specs.Tables.{Lent, formEntry, lineEntry, stepEntry, table, hasRoom, requestOf, lentOf}
-use Rattle.scope.specs.Checked.{allZero, pastZero}
-use Rattle.scope.specs.Unpack.{unpack-length}
-use Rattle.scope.specs.Tests.{both-true, both-met}
+use Rattle.scope.specs.Logic.Form.{both}
+use Rattle.scope.specs.File.Request.{Row, Request}
+use Rattle.scope.specs.File.Kinds.{Sort, Kind, kindIn, stepKinds}
+use Rattle.scope.specs.File.Refusals.{restZero, stepRefusal}
+use Rattle.scope.specs.Call.Tables.{Lent, formEntry, lineEntry, stepEntry, table, hasRoom, requestOf, lentOf}
+use Rattle.scope.specs.Call.Checked.{allZero, pastZero}
+use Rattle.scope.specs.Tools.Unpack.{unpack-length}
+use Rattle.scope.specs.Tools.Tests.{both-true, both-met}
 use Rattle.trip.specs.Words.{everyKind, every-at}
 use Rattle.trip.specs.RowRanges.{row-passed}
 use Rattle.trip.specs.Small.{count-passed}

@@ -6,17 +6,17 @@ use mathlib.Core.List.{List, []}
 use mathlib.Core.Bool.{true}
 use native.Mathlib.Omega.{arith}
 use lib.ListN.{length}
-use Rattle.scope.specs.Bytes.{bytes, joined}
-use Rattle.scope.specs.Request.{Row, Request}
-use Rattle.scope.specs.Line.{line, lineText}
-use Rattle.scope.specs.Kinds.{Kind, formKinds, stepKinds, rowShape}
-use Rattle.scope.specs.Refusals.{countRefusal, principalsRefusal, atomsRefusal, formulasRefusal, formRefusal, clausesRefusal, clauseRefusal, goalRefusal, stepsRefusal, stepRefusal}
-use Rattle.scope.specs.Text.{numberShape, numberLine, formulasLine, formLine, clausesLine, clauseLine, goalLine, stepsLine, stepLine, requestText}
-use Rattle.scope.specs.Reader.{formItem, clauseItem, stepItem, requestLines}
+use Rattle.scope.specs.File.Bytes.{bytes, joined}
+use Rattle.scope.specs.File.Request.{Row, Request}
+use Rattle.scope.specs.File.Line.{line, lineText}
+use Rattle.scope.specs.File.Kinds.{Kind, formKinds, stepKinds, rowShape}
+use Rattle.scope.specs.File.Refusals.{countRefusal, principalsRefusal, atomsRefusal, formulasRefusal, formRefusal, clausesRefusal, clauseRefusal, goalRefusal, stepsRefusal, stepRefusal}
+use Rattle.scope.specs.File.Text.{numberShape, numberLine, formulasLine, formLine, clausesLine, clauseLine, goalLine, stepsLine, stepLine, requestText}
+use Rattle.scope.specs.File.Reader.{formItem, clauseItem, stepItem, requestLines}
 use Rattle.trip.specs.Numbers.{number-there, number-back}
 use Rattle.trip.specs.Cuts.{free, numeral-free}
 use Rattle.trip.specs.Words.{Neat, form-kinds-neat, step-kinds-neat}
-use Rattle.trip.specs.Rows.{Sayable, row-there, row-back, row-clean}
+use Rattle.trip.specs.Rows.{SayableRow, row-there, row-back, row-clean}
 use Rattle.trip.specs.Small.{count-passed, clause-named, goal-named, row-sayable}
 use Rattle.trip.specs.Reads.{Shaped, Reads, line-reads}
 use Rattle.trip.specs.Several.{two, Each, seq-reads, done-reads, counted-reads, reads-as}
@@ -37,7 +37,7 @@ pub number-shaped : Shaped numberShape (λ n. n < 100000)
 number-shaped =
     record { there = number-there; back = number-back; clean = λ n h. numeral-free 10 n (omega arith) }
 
-pub row-shaped : (ks : List Kind) → Neat ks → Shaped (rowShape ks) (Sayable ks)
+pub row-shaped : (ks : List Kind) → Neat ks → Shaped (rowShape ks) (SayableRow ks)
 row-shaped ks n =
     record { there = λ r g. row-there ks r n g; back = λ s r e. row-back ks s r n e; clean = λ r g. row-clean ks r n (g .known) }
 

@@ -8,13 +8,13 @@ use native.Mathlib.Nat.{mul-suc}
 use lib.Dec.{leb, ltb}
 use lib.ListN.{length, take, length-append}
 use borrow.Author.Tests.{leb-true}
-use Rattle.scope.specs.Request.{Row, Request}
-use Rattle.scope.specs.Bytes.{joined}
-use Rattle.scope.specs.Number.{numeral}
-use Rattle.scope.specs.Line.{Line, lineText, manyText, countedText}
-use Rattle.scope.specs.Kinds.{Kind, kindIn, spaced, operandsOf, rowText, formKinds, stepKinds}
-use Rattle.scope.specs.Refusals.{formRefusal, stepRefusal}
-use Rattle.scope.specs.Text.{versionLine, principalsLine, atomsLine, formulasLine, formLine, clausesLine, clauseLine, goalLine, stepsLine, stepLine, requestText}
+use Rattle.scope.specs.File.Request.{Row, Request}
+use Rattle.scope.specs.File.Bytes.{joined}
+use Rattle.scope.specs.File.Number.{numeral}
+use Rattle.scope.specs.File.Line.{Line, lineText, manyText, countedText}
+use Rattle.scope.specs.File.Kinds.{Kind, kindIn, spaced, operandsOf, rowText, formKinds, stepKinds}
+use Rattle.scope.specs.File.Refusals.{formRefusal, stepRefusal}
+use Rattle.scope.specs.File.Text.{versionLine, principalsLine, atomsLine, formulasLine, formLine, clausesLine, clauseLine, goalLine, stepsLine, stepLine, requestText}
 use Rattle.trip.specs.Words.{everyKind, every-at}
 use Rattle.trip.specs.RowRanges.{row-passed}
 use Rattle.trip.specs.Small.{count-passed}

@@ -9,9 +9,9 @@ use native.Mathlib.Omega.{arith}
 use lib.Dec.{leb, ltb}
 use lib.ListN.{length}
 use borrow.Author.Tests.{leb-true, ltb-true, ltb-false, eqb-false, not-true, lt-ltb, le-ltb, le-leb, ne-eqb}
-use Rattle.scope.specs.Form.{both}
-use Rattle.scope.specs.Number.{isDigit, digits, leadingZero, number, digit, numeral}
-use Rattle.scope.specs.Tests.{both-true, both-met, taken}
+use Rattle.scope.specs.Logic.Form.{both}
+use Rattle.scope.specs.File.Number.{isDigit, digits, leadingZero, number, digit, numeral}
+use Rattle.scope.specs.Tools.Tests.{both-true, both-met, taken}
 
 pub record Digit (b : ℕ) : Type 0 where
   pub low : 48 ≤ b

@@ -10,9 +10,9 @@ use lib.Dec.{eqb}
 use lib.ListN.{length, take, drop, replicate, length-append, length-replicate, length-drop, take-append-drop}
 use lib.Seq.{take-at, drop-at, take-add, length-take-le}
 use borrow.Author.Tests.{eqb-true}
-use Rattle.scope.specs.Tables.{Entry, unpack, pack, padded, table}
-use Rattle.scope.specs.Checked.{allZero}
-use Rattle.scope.specs.Tests.{both-true}
+use Rattle.scope.specs.Call.Tables.{Entry, unpack, pack, padded, table}
+use Rattle.scope.specs.Call.Checked.{allZero}
+use Rattle.scope.specs.Tools.Tests.{both-true}
 
 -- What is asked of an entry: as many numbers as its width says; numbers and thing give each other back.
 pub record Laid {A : Type 0} (e : Entry A) (Fits : A → Type 0) : Type 0 where

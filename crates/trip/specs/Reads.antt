@@ -5,8 +5,8 @@ use mathlib.Core.Path.{_≡_, refl, ap}
 use mathlib.Core.List.{List, [], _∷_, _++_, append-assoc}
 use mathlib.Core.Bool.{true}
 use mathlib.Core.Option.{Option, none, some}
-use Rattle.scope.specs.Line.{Shape, Line, Value, val, out, ok, Reader, Cut, parts, uncut, cut, strip, settled, judged, valued, placed, lineOf, line, lineText}
-use Rattle.scope.specs.Tests.{never}
+use Rattle.scope.specs.File.Line.{Shape, Line, Value, val, out, ok, Reader, Cut, parts, uncut, cut, strip, orRefused, shapedAs, valued, placed, lineOf, line, lineText}
+use Rattle.scope.specs.Tools.Tests.{never}
 use Rattle.trip.specs.Cuts.{free, free-append, cut-there, cut-back, strip-there, strip-back}
 
 -- Of the shape of a value: what is fine to write.
@@ -22,13 +22,13 @@ pub record Reads {A : Type 0} (rd : Reader A) (text : A → List ℕ) (Good : A 
   pub good : (s : List ℕ) (a : A) (rest : List ℕ) → rd s ≡ ok a rest → Good a
 
 -- What was read well had no refusal.
-settled-back : {A : Type 0} (k : ℕ) (b a : A) → settled k b ≡ val a → (k ≡ 0) × (b ≡ a)
-unfolding settled
+settled-back : {A : Type 0} (k : ℕ) (b a : A) → orRefused k b ≡ val a → (k ≡ 0) × (b ≡ a)
+unfolding orRefused
 settled-back zero b a e = (refl, cc)
 settled-back (suc k) b a e = never cc
 
-judged-back : {A : Type 0} (refusal : A → ℕ) (x : Option A) (a : A) → judged refusal x ≡ val a → (x ≡ some a) × (refusal a ≡ 0)
-unfolding judged
+judged-back : {A : Type 0} (refusal : A → ℕ) (x : Option A) (a : A) → shapedAs refusal x ≡ val a → (x ≡ some a) × (refusal a ≡ 0)
+unfolding shapedAs
 judged-back refusal none a e = never cc
 judged-back refusal (some b) a e =
     let p = settled-back (refusal b) b a e in

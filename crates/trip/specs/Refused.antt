@@ -8,19 +8,19 @@ use mathlib.Core.Bool.{Bool, true, false, cond}
 use native.Mathlib.Omega.{arith}
 use lib.Dec.{leb}
 use lib.ListN.{length}
-use Rattle.scope.specs.Answer.{Answer, answer}
-use Rattle.scope.specs.Bytes.{bytes, joined}
-use Rattle.scope.specs.Request.{Request}
-use Rattle.scope.specs.Line.{Line, Read, ok, bad, Reader, settled, placed, line, lineText, after, _>>=_, done, many, manyText, counted, countedText}
+use Rattle.scope.specs.Call.Answer.{Answer, answer}
+use Rattle.scope.specs.File.Bytes.{bytes, joined}
+use Rattle.scope.specs.File.Request.{Request}
+use Rattle.scope.specs.File.Line.{Line, Read, ok, bad, Reader, orRefused, placed, line, lineText, andThen, _>>=_, done, many, manyText, counted, countedText}
 use Rattle.scope.specs.Limits.{versionAt, formAt, clausesAt, clauseAt, goalAt, stepsAt, stepAt}
-use Rattle.scope.specs.Kinds.{formKinds, stepKinds}
-use Rattle.scope.specs.Refusals.{demand, countRefusal, versionRefusal, principalsRefusal, atomsRefusal, formulasRefusal, formRefusal, clausesRefusal, clauseRefusal, goalRefusal, stepsRefusal, stepRefusal}
-use Rattle.scope.specs.Text.{numberLine, formulasLine, formLine, clausesLine, clauseLine, stepsLine, stepLine, requestText}
-use Rattle.scope.specs.Reader.{refused, formItem, clauseItem, stepItem, requestLines, ended, readRequest}
-use Rattle.scope.specs.Tables.{Lent, hasRoom, requestOf}
-use Rattle.scope.specs.Checked.{firstMet, eachOf, lineAnswers, pastZero, checked}
-use Rattle.scope.specs.Calls.{written, unwritten, writtenIf, writing}
-use Rattle.scope.specs.Tests.{never, demand-passes}
+use Rattle.scope.specs.File.Kinds.{formKinds, stepKinds}
+use Rattle.scope.specs.File.Refusals.{demand, countRefusal, versionRefusal, principalsRefusal, atomsRefusal, formulasRefusal, formRefusal, clausesRefusal, clauseRefusal, goalRefusal, stepsRefusal, stepRefusal}
+use Rattle.scope.specs.File.Text.{numberLine, formulasLine, formLine, clausesLine, clauseLine, stepsLine, stepLine, requestText}
+use Rattle.scope.specs.File.Reader.{refused, formItem, clauseItem, stepItem, requestLines, ended, readRequest}
+use Rattle.scope.specs.Call.Tables.{Lent, hasRoom, requestOf}
+use Rattle.scope.specs.Call.Checked.{firstMet, eachOf, lineAnswers, pastZero, checked}
+use Rattle.scope.specs.Call.Calls.{written, unwritten, writtenIf, writing}
+use Rattle.scope.specs.Tools.Tests.{never, demand-passes}
 use Rattle.trip.specs.Cuts.{free, free-append, cut-there, strip-there}
 use Rattle.trip.specs.Words.{form-kinds-neat, step-kinds-neat}
 use Rattle.trip.specs.Rows as Rows
@@ -30,26 +30,26 @@ use Rattle.trip.specs.File.{number-shaped, row-shaped}
 use Rattle.trip.specs.Checks.{passes}
 use Rattle.trip.specs.Trip.{check-law}
 
--- What a reader gives under the first refusal met: the thing and the rest where none is, else that refusal.
-unfoldable met : {A : Type 0} → Answer → A → List ℕ → Read A
-met (answer zero place) a rest = ok a rest
-met (answer (suc k) place) a rest = bad (suc k) place
+-- What a reader gives under the first refusal metThen: the thing and the rest where none is, else that refusal.
+unfoldable metThen : {A : Type 0} → Answer → A → List ℕ → Read A
+metThen (answer zero place) a rest = ok a rest
+metThen (answer (suc k) place) a rest = bad (suc k) place
 
 -- A reader on the text of a thing, whatever follows, gives what these answers say of it.
 record Meets {A : Type 0} (rd : Reader A) (text : List ℕ) (answers : List Answer) (a : A) : Type 0 where
-  gives : (rest : List ℕ) → rd (text ++ rest) ≡ met (firstMet answers) a rest
+  gives : (rest : List ℕ) → rd (text ++ rest) ≡ metThen (firstMet answers) a rest
 
 line-meets :
     {A : Type 0} {Fits : A → Type 0} (l : Line A) (refusal : A → ℕ) (i : ℕ) (a : A) → free 10 (l .key) ≡ true → Shaped (l .shape) Fits → Fits a
     → Meets (line l refusal i) (lineText l a) (answer (refusal a) i ∷ []) a
-unfolding line lineText firstMet met
+unfolding line lineText firstMet metThen
 line-meets {A} l refusal i a f c g = record { gives = gives }
   where
-    settles : (k : ℕ) (rest : List ℕ) → placed i (settled k a) rest ≡ met (firstMet (answer k i ∷ [])) a rest
+    settles : (k : ℕ) (rest : List ℕ) → placed i (orRefused k a) rest ≡ metThen (firstMet (answer k i ∷ [])) a rest
     settles zero rest = refl
     settles (suc k) rest = refl
 
-    gives : (rest : List ℕ) → line l refusal i (lineText l a ++ rest) ≡ met (firstMet (answer (refusal a) i ∷ [])) a rest
+    gives : (rest : List ℕ) → line l refusal i (lineText l a ++ rest) ≡ metThen (firstMet (answer (refusal a) i ∷ [])) a rest
     gives rest =
         let t = l .shape .text a in
         let k = cut-there 10 (l .key ++ t) rest (free-append 10 (l .key) t f (c .clean a g)) in
@@ -58,30 +58,30 @@ line-meets {A} l refusal i a f c g = record { gives = gives }
 
 -- The end: nothing is asked.
 done-meets : {A : Type 0} (a : A) → Meets (done a) [] [] a
-unfolding firstMet met
+unfolding firstMet metThen
 done-meets a = record { gives = λ rest. refl }
 
--- One after the other: a refusal of the first is met before the second is read.
+-- One andThen the other: a refusal of the first is metThen before the second is read.
 seq-meets :
     {A B : Type 0} {m : Reader A} {s t : List ℕ} {xs ys : List Answer} {a : A} {b : B} (next : A → Reader B) → Meets m s xs a
     → Meets (next a) t ys b → Meets (_>>=_ m next) (s ++ t) (xs ++ ys) b
-unfolding _>>=_ after firstMet met
+unfolding _>>=_ andThen firstMet metThen
 seq-meets {A} {B} {m} {s} {t} {xs} {ys} {a} {b} next p q =
     record { gives = λ rest. rw (append-assoc s t rest, p .gives (t ++ rest)) (goes-on xs rest) }
   where
-    goes-on : (zs : List Answer) (rest : List ℕ) → after (met (firstMet zs) a (t ++ rest)) next ≡ met (firstMet (zs ++ ys)) b rest
+    goes-on : (zs : List Answer) (rest : List ℕ) → andThen (metThen (firstMet zs) a (t ++ rest)) next ≡ metThen (firstMet (zs ++ ys)) b rest
     goes-on [] rest = q .gives rest
     goes-on (answer zero p ∷ zs) rest = goes-on zs rest
     goes-on (answer (suc k) p ∷ zs) rest = refl
 
--- What is put together from a thing meets what the thing met.
+-- What is put together from a thing meets what the thing metThen.
 then-meets :
     {A B : Type 0} (f : A → B) {m : Reader A} {s : List ℕ} {xs : List Answer} {a : A} → Meets m s xs a
     → Meets (_>>=_ m (λ x. done (f x))) s xs (f a)
-unfolding _>>=_ after firstMet met
+unfolding _>>=_ andThen firstMet metThen
 then-meets {A} {B} f {m} {s} {xs} {a} p = record { gives = λ rest. rw (p .gives rest) (goes-on (firstMet xs) rest) }
   where
-    goes-on : (x : Answer) (rest : List ℕ) → after (met x a rest) (λ y. done (f y)) ≡ met x (f a) rest
+    goes-on : (x : Answer) (rest : List ℕ) → andThen (metThen x a rest) (λ y. done (f y)) ≡ metThen x (f a) rest
     goes-on (answer zero p) rest = refl
     goes-on (answer (suc k) p) rest = refl
 
@@ -109,12 +109,12 @@ pub record InShape (q : Request) : Type 0 where
   pub principals : q .principals < 100000
   pub atoms : q .atoms < 100000
   pub formulas : length (q .forms) < 100000
-  pub forms : All (Rows.Sayable formKinds) (q .forms)
+  pub forms : All (Rows.SayableRow formKinds) (q .forms)
   pub clauses : length (q .lines) < 100000
   pub lines : All (λ f. f < 100000) (q .lines)
   pub goal : q .goal < 100000
   pub step-count : length (q .steps) < 100000
-  pub steps : All (Rows.Sayable stepKinds) (q .steps)
+  pub steps : All (Rows.SayableRow stepKinds) (q .steps)
 
 number-meets :
     (key : String) (refusal : ℕ → ℕ) (i n : ℕ) → free 10 (bytes key) ≡ true → n < 100000
@@ -131,7 +131,7 @@ request-meets q g =
     (seq-meets _ (number-meets "atoms=" atomsRefusal 3 (q .atoms) refl (g .atoms))
     (seq-meets _
     (counted-meets formulasLine formulasRefusal 4 (formItem (q .principals) (q .atoms)) formLine
-    (λ before r. answer (formRefusal (q .principals) (q .atoms) before r) (formAt (length before))) (Rows.Sayable formKinds) (q .forms)
+    (λ before r. answer (formRefusal (q .principals) (q .atoms) before r) (formAt (length before))) (Rows.SayableRow formKinds) (q .forms)
     (number-meets "formulas=" formulasRefusal 4 nf refl (g .formulas))
     (λ before r h. line-meets formLine (formRefusal (q .principals) (q .atoms) before) (formAt (length before)) r refl (row-shaped formKinds form-kinds-neat) h)
     (g .forms))
@@ -144,30 +144,30 @@ request-meets q g =
     (seq-meets _ (number-meets "goal=" (goalRefusal (q .forms)) (goalAt nf nl) (q .goal) refl (g .goal))
     (seq-meets _
     (counted-meets stepsLine stepsRefusal (stepsAt nf nl) (stepItem nf nl) stepLine
-    (λ before r. answer (stepRefusal r) (stepAt nf nl (suc (length before)))) (Rows.Sayable stepKinds) (q .steps)
+    (λ before r. answer (stepRefusal r) (stepAt nf nl (suc (length before)))) (Rows.SayableRow stepKinds) (q .steps)
     (number-meets "steps=" stepsRefusal (stepsAt nf nl) (length (q .steps)) refl (g .step-count))
     (λ before r h. line-meets stepLine stepRefusal (stepAt nf nl (suc (length before))) r refl (row-shaped stepKinds step-kinds-neat) h)
     (g .steps))
     (done-meets q)))))))
 
 -- Reading the text of such a request gives what the checks of its lines give.
-text-told : (q : Request) → InShape q → readRequest (requestText q) ≡ ended (met (firstMet (lineAnswers q)) q [])
+text-told : (q : Request) → InShape q → readRequest (requestText q) ≡ ended (metThen (firstMet (lineAnswers q)) q [])
 unfolding readRequest firstMet countRefusal
 text-told q g = ap (λ s. ended (requestLines s)) (sym (append-nil (requestText q))) ∙ ap ended (request-meets q g .gives [])
 
 pub lines-refused :
     (q : Request) (k i : ℕ) → InShape q → firstMet (lineAnswers q) ≡ answer (suc k) i → readRequest (requestText q) ≡ refused (suc k) i
-unfolding ended met
-lines-refused q k i g e = text-told q g ∙ ap (λ a. ended (met a q [])) e
+unfolding ended metThen
+lines-refused q k i g e = text-told q g ∙ ap (λ a. ended (metThen a q [])) e
 
 pub refused-lines :
     (q : Request) (k i : ℕ) → InShape q → readRequest (requestText q) ≡ refused k i
     → (j : ℕ) × (k ≡ suc j) × (firstMet (lineAnswers q) ≡ answer (suc j) i)
-unfolding ended met
+unfolding ended metThen
 refused-lines q k i g e = go (firstMet (lineAnswers q)) refl (sym (text-told q g) ∙ e)
   where
     go :
-        (a : Answer) → firstMet (lineAnswers q) ≡ a → ended (met a q []) ≡ refused k i
+        (a : Answer) → firstMet (lineAnswers q) ≡ a → ended (metThen a q []) ≡ refused k i
         → (j : ℕ) × (k ≡ suc j) × (firstMet (lineAnswers q) ≡ answer (suc j) i)
     go (answer zero p) d h = never cc
     go (answer (suc j) p) d h = (j, cc, cc)
@@ -177,7 +177,7 @@ pub record Sayable (t : Lent) : Type 0 where
   pub room : hasRoom (length (t .formTable)) (length (t .lineTable)) (length (t .stepTable)) ≡ true
   pub in-shape : InShape (requestOf t)
 
--- What is met in a list is met in a longer one; and what is met at a line is not met in a last answer at place 0.
+-- What is metThen in a list is metThen in a longer one; and what is metThen at a line is not metThen in a last answer at place 0.
 met-longer : (k i : ℕ) (xs ys : List Answer) → firstMet xs ≡ answer (suc k) i → firstMet (xs ++ ys) ≡ answer (suc k) i
 unfolding firstMet
 met-longer k i [] ys e = never cc

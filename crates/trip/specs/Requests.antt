@@ -3,11 +3,11 @@
 use Prim.Native.Nat.{ℕ}
 use mathlib.Core.Path.{_≡_, sym, ap, _∙_}
 use mathlib.Core.List.{List, [], _∷_, append-nil}
-use Rattle.scope.specs.Request.{Request}
-use Rattle.scope.specs.Line.{Read, ok, bad}
-use Rattle.scope.specs.Text.{requestText}
-use Rattle.scope.specs.Reader.{read, requestLines, ended, readRequest}
-use Rattle.scope.specs.Tests.{never}
+use Rattle.scope.specs.File.Request.{Request}
+use Rattle.scope.specs.File.Line.{Read, ok, bad}
+use Rattle.scope.specs.File.Text.{requestText}
+use Rattle.scope.specs.File.Reader.{read, requestLines, ended, readRequest}
+use Rattle.scope.specs.Tools.Tests.{never}
 use Rattle.trip.specs.File.{Unrefused, request-reads}
 
 pub text-reads : (q : Request) → Unrefused q → readRequest (requestText q) ≡ read q

@@ -9,10 +9,10 @@ use lib.Dec.{ltb}
 use lib.ListN.{length}
 use borrow.Author.Tests.{leb-true, ltb-true}
 use Rattle.scope.specs.Limits.{mostStepNumber}
-use Rattle.scope.specs.Request.{Row}
-use Rattle.scope.specs.Kinds.{Sort, atomNumber, principalNumber, formulaNumber, clauseNumber, worldNumber, Kind, kindIn, operandsOf}
-use Rattle.scope.specs.Refusals.{inRange, isEarlier, pass, restZero, rowRefusal}
-use Rattle.scope.specs.Tests.{both-true, demand-met}
+use Rattle.scope.specs.File.Request.{Row}
+use Rattle.scope.specs.File.Kinds.{Sort, atomNumber, principalNumber, formulaNumber, clauseNumber, worldNumber, Kind, kindIn, operandsOf}
+use Rattle.scope.specs.File.Refusals.{inRange, isEarlier, pass, restZero, rowRefusal}
+use Rattle.scope.specs.Tools.Tests.{both-true, demand-met}
 
 -- How many numbers of a sort there are for row i.
 abbrev pub countOf : ℕ → ℕ → ℕ → Sort → ℕ

@@ -8,12 +8,12 @@ use native.Mathlib.Omega.{arith}
 use lib.Dec.{eqb}
 use lib.ListN.{length, getD, take}
 use borrow.Author.Tests.{eqb-true, eq-eqb}
-use Rattle.scope.specs.Form.{both}
-use Rattle.scope.specs.Request.{Row}
-use Rattle.scope.specs.Number.{number, numeral}
-use Rattle.scope.specs.Kinds.{Sort, Kind, kindIn, items, spaced, kindFrom, ontoNumbers, numbers, rowOf, operandsOf, kindRow, itemsRow, rowIn, rowText}
-use Rattle.scope.specs.Refusals.{restZero}
-use Rattle.scope.specs.Tests.{never, both-true, taken}
+use Rattle.scope.specs.Logic.Form.{both}
+use Rattle.scope.specs.File.Request.{Row}
+use Rattle.scope.specs.File.Number.{number, numeral}
+use Rattle.scope.specs.File.Kinds.{Sort, Kind, kindIn, items, spaced, kindFrom, ontoNumbers, numbers, rowOf, operandsOf, kindRow, itemsRow, rowIn, rowText}
+use Rattle.scope.specs.File.Refusals.{restZero}
+use Rattle.scope.specs.Tools.Tests.{never, both-true, taken}
 use Rattle.trip.specs.Numbers.{number-there, number-back}
 use Rattle.trip.specs.Cuts.{free, items-there, items-back, spaced-free, numerals-free}
 use Rattle.trip.specs.Words.{Neat, neat-kind, word-there, word-found}
@@ -46,7 +46,7 @@ numbers-back (w ∷ ws) ns e =
     rw (p .4) (cc (number-back w (p .0) (p .2), numbers-back ws (p .1) (p .3)))
 
 -- A row that its kind's text can say.
-pub record Sayable (ks : List Kind) (r : Row) : Type 0 where
+pub record SayableRow (ks : List Kind) (r : Row) : Type 0 where
   pub known : r .kind < length ks
   pub lacking : restZero (kindIn ks (r .kind) .operands) (operandsOf r) ≡ true
   pub left-small : r .left < 100000
@@ -94,7 +94,7 @@ taken-back (suc (suc zero)) [] e h = absurd (omega arith)
 taken-back (suc (suc zero)) (a ∷ []) e h = absurd (omega arith)
 taken-back (suc (suc zero)) (a ∷ b ∷ c ∷ ns) e h = absurd (omega arith)
 
-pub row-there : (ks : List Kind) (r : Row) → Neat ks → Sayable ks r → rowIn ks (rowText ks r) ≡ some r
+pub row-there : (ks : List Kind) (r : Row) → Neat ks → SayableRow ks r → rowIn ks (rowText ks r) ≡ some r
 unfolding rowIn rowText
 row-there ks r n g =
     let os = kindIn ks (r .kind) .operands in

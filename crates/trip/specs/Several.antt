@@ -1,11 +1,11 @@
--- Readers one after the other, several of one kind, and a count with that many: each keeps the laws of `Reads`.
+-- Readers one andThen the other, several of one kind, and a count with that many: each keeps the laws of `Reads`.
 use Prim.Native.Nat.{ℕ, zero, suc, _+_, _<_, _≤_}
 use mathlib.Core.Path.{_≡_, refl, sym, ap, _∙_}
 use mathlib.Core.List.{List, [], _∷_, _++_, append-assoc, append-nil}
 use native.Mathlib.Omega.{arith}
 use lib.ListN.{length, take, getD, length-append}
-use Rattle.scope.specs.Line.{Line, Read, ok, bad, Reader, line, lineText, after, _>>=_, done, many, manyText, counted, countedText}
-use Rattle.scope.specs.Tests.{never}
+use Rattle.scope.specs.File.Line.{Line, Read, ok, bad, Reader, line, lineText, andThen, _>>=_, done, many, manyText, counted, countedText}
+use Rattle.scope.specs.Tools.Tests.{never}
 use Rattle.trip.specs.Reads.{Reads}
 
 record After {A B : Type 0} (x : Read A) (next : A → Reader B) (b : B) (rest : List ℕ) : Type 0 where
@@ -14,8 +14,8 @@ record After {A B : Type 0} (x : Read A) (next : A → Reader B) (b : B) (rest :
   begun : x ≡ ok first middle
   ended : next first middle ≡ ok b rest
 
-after-back : {A B : Type 0} (x : Read A) (next : A → Reader B) (b : B) (rest : List ℕ) → after x next ≡ ok b rest → After x next b rest
-unfolding after
+after-back : {A B : Type 0} (x : Read A) (next : A → Reader B) (b : B) (rest : List ℕ) → andThen x next ≡ ok b rest → After x next b rest
+unfolding andThen
 after-back (ok a r) next b rest e = record { first = a; middle = r; begun = refl; ended = e }
 after-back (bad k i) next b rest e = never cc
 
@@ -26,7 +26,7 @@ pub record Two (G H : Type 0) : Type 0 where
 abbrev pub two : {G H : Type 0} → G → H → Two G H
 two g h = record { one = g; two = h }
 
--- One after the other: the second may go by what the first read, and `part` finds that again in the whole.
+-- One andThen the other: the second may go by what the first read, and `part` finds that again in the whole.
 pub seq-reads :
     {A B : Type 0} {m : Reader A} {next : A → Reader B} {first : A → List ℕ} {second : B → List ℕ} {G : A → Type 0} {H : A → B → Type 0}
     (part : B → A) → Reads m first G → ((a : A) → G a → Reads (next a) second (H a)) → ((a : A) (b : B) → G a → H a b → part b ≡ a)

@@ -8,13 +8,13 @@ use native.Mathlib.Omega.{arith}
 use lib.Dec.{eqb, leb, ltb}
 use lib.ListN.{length}
 use borrow.Author.Tests.{eqb-true, leb-true, ltb-true}
-use Rattle.scope.specs.Form.{both}
-use Rattle.scope.specs.Request.{Row}
-use Rattle.scope.specs.Kinds.{Sort, atomNumber, principalNumber, formulaNumber, clauseNumber, worldNumber, Kind, kindIn}
-use Rattle.scope.specs.Refusals.{restZero, rowRefusal, countRefusal, clauseRefusal, goalRefusal}
-use Rattle.scope.specs.Tests.{both-true, demand-met}
+use Rattle.scope.specs.Logic.Form.{both}
+use Rattle.scope.specs.File.Request.{Row}
+use Rattle.scope.specs.File.Kinds.{Sort, atomNumber, principalNumber, formulaNumber, clauseNumber, worldNumber, Kind, kindIn}
+use Rattle.scope.specs.File.Refusals.{restZero, rowRefusal, countRefusal, clauseRefusal, goalRefusal}
+use Rattle.scope.specs.Tools.Tests.{both-true, demand-met}
 use Rattle.trip.specs.Words.{Neat, neat-kind}
-use Rattle.trip.specs.Rows.{Sayable}
+use Rattle.trip.specs.Rows.{SayableRow}
 use Rattle.trip.specs.RowRanges.{countOf, Below, row-passed}
 
 pub record Counted (least most n : ℕ) : Type 0 where
@@ -71,7 +71,7 @@ operands-small count l r (o ∷ o′ ∷ o″ ∷ os) u h z b = absurd (omega ar
 
 pub row-sayable :
     (ks : List Kind) (principals atoms i : ℕ) (r : Row) → Neat ks → Under principals atoms i
-    → rowRefusal ks principals atoms i r ≡ 0 → Sayable ks r
+    → rowRefusal ks principals atoms i r ≡ 0 → SayableRow ks r
 row-sayable ks np na i r n u e =
     let p = row-passed np na i ks r e in
     let c = neat-kind ks (r .kind) n (p .known) in

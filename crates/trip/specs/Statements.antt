@@ -5,14 +5,14 @@ use Prim.Native.Nat.{ℕ, suc, _≤_}
 use mathlib.Core.Path.{_≡_, sym, _∙_}
 use mathlib.Core.List.{List}
 use lib.ListN.{length}
-use Rattle.scope.specs.Answer.{answer}
-use Rattle.scope.specs.Request.{Request}
-use Rattle.scope.specs.Text.{requestText}
+use Rattle.scope.specs.Call.Answer.{answer}
+use Rattle.scope.specs.File.Request.{Request}
+use Rattle.scope.specs.File.Text.{requestText}
 use Rattle.scope.specs.Limits.{mostBytes}
-use Rattle.scope.specs.Reader.{read, refused, readRequest}
-use Rattle.scope.specs.Tables.{Lent, requestOf}
-use Rattle.scope.specs.Checked.{firstMet, lineAnswers, checked}
-use Rattle.scope.specs.Calls.{reading, lentAfter, written, unwritten, writing}
+use Rattle.scope.specs.File.Reader.{read, refused, readRequest}
+use Rattle.scope.specs.Call.Tables.{Lent, requestOf}
+use Rattle.scope.specs.Call.Checked.{firstMet, lineAnswers, checked}
+use Rattle.scope.specs.Call.Calls.{reading, lentAfter, written, unwritten, writing}
 use Rattle.trip.specs.File.{Unrefused}
 use Rattle.trip.specs.Requests.{text-reads, read-unrefused, read-text}
 use Rattle.trip.specs.Fits.{text-fits}

@@ -7,15 +7,15 @@ use mathlib.Core.Bool.{Bool, true, false, cond}
 use lib.Dec.{leb}
 use lib.ListN.{length}
 use borrow.Author.Tests.{leb-true, le-leb}
-use Rattle.scope.specs.Answer.{Answer, answer}
-use Rattle.scope.specs.Request.{Request}
-use Rattle.scope.specs.Refusals.{demand}
-use Rattle.scope.specs.Text.{requestText}
-use Rattle.scope.specs.Reader.{Outcome, read, refused, readRequest}
-use Rattle.scope.specs.Tables.{Lent, hasRoom, requestOf, lentOf}
-use Rattle.scope.specs.Checked.{firstMet, lineAnswers, pastZero, checked}
-use Rattle.scope.specs.Calls.{reading, lentAfter, written, unwritten, writtenIf, writing}
-use Rattle.scope.specs.Tests.{never, demand-met, demand-passes}
+use Rattle.scope.specs.Call.Answer.{Answer, answer}
+use Rattle.scope.specs.File.Request.{Request}
+use Rattle.scope.specs.File.Refusals.{demand}
+use Rattle.scope.specs.File.Text.{requestText}
+use Rattle.scope.specs.File.Reader.{Outcome, read, refused, readRequest}
+use Rattle.scope.specs.Call.Tables.{Lent, hasRoom, requestOf, lentOf}
+use Rattle.scope.specs.Call.Checked.{firstMet, lineAnswers, pastZero, checked}
+use Rattle.scope.specs.Call.Calls.{reading, lentAfter, written, unwritten, writtenIf, writing}
+use Rattle.scope.specs.Tools.Tests.{never, demand-met, demand-passes}
 use Rattle.trip.specs.File.{Unrefused}
 use Rattle.trip.specs.Requests.{text-reads, read-unrefused, read-text}
 use Rattle.trip.specs.Checks.{nothing-met, met-first, met-apart, met-nothing, passes, passes-all, lines-unrefused, unrefused-lines}

@@ -8,9 +8,9 @@ use native.Mathlib.Omega.{arith}
 use lib.Dec.{eqb, leb}
 use lib.ListN.{length}
 use borrow.Author.Tests.{eqb-true, eq-eqb, not-true, leb-true}
-use Rattle.scope.specs.Form.{both}
-use Rattle.scope.specs.Kinds.{Kind, kindIn, same, kindFrom, formKinds, stepKinds}
-use Rattle.scope.specs.Tests.{never, both-true, both-met}
+use Rattle.scope.specs.Logic.Form.{both}
+use Rattle.scope.specs.File.Kinds.{Kind, kindIn, same, kindFrom, formKinds, stepKinds}
+use Rattle.scope.specs.Tools.Tests.{never, both-true, both-met}
 use Rattle.trip.specs.Cuts.{free}
 
 same-is : (s t : List ℕ) → same s t ≡ true → s ≡ t

@@ -4,10 +4,10 @@ use mathlib.Core.Path.{_≡_}
 use mathlib.Core.Bool.{false}
 use mathlib.Core.List.{List, _∷_}
 use lib.ListN.{length, getD}
-use Rattle.scope.specs.Form.{Form, top, isSf}
-use Rattle.scope.specs.Request.{Request}
-use Rattle.scope.specs.Obligation.{Step, Use}
-use Rattle.scope.specs.Judge.{policyOf, goalOf, stepsOf}
+use Rattle.scope.specs.Logic.Form.{Form, top, isSf}
+use Rattle.scope.specs.File.Request.{Request}
+use Rattle.scope.specs.Logic.Obligation.{Step, Use}
+use Rattle.scope.specs.Call.Judge.{policyOf, goalOf, stepsOf}
 
 -- Among the steps is `use i`.
 pub data Used (i : ℕ) : List Step → Type 0 where

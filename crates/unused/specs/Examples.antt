@@ -4,10 +4,10 @@ use Prim.Native.Nat.{ℕ, zero, suc, _<_}
 use mathlib.Core.Path.{_≡_, refl, sym, _∙_}
 use mathlib.Core.List.{List, [], _∷_}
 use native.Mathlib.Omega.{arith}
-use Rattle.scope.specs.Answer.{answer}
-use Rattle.scope.specs.Request.{Row, Request}
-use Rattle.scope.specs.Form.{isSf}
-use Rattle.scope.specs.Judge.{goalOf, stepsOf, stepsAnswer}
+use Rattle.scope.specs.Call.Answer.{answer}
+use Rattle.scope.specs.File.Request.{Row, Request}
+use Rattle.scope.specs.Logic.Form.{isSf}
+use Rattle.scope.specs.Call.Judge.{goalOf, stepsOf, stepsAnswer}
 use Rattle.unused.specs.Alike.{Used, later, policyLine, LineAlike, same, unused, Alike}
 use Rattle.unused.specs.Statements.{same-answer}
 

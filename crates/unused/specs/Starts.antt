@@ -7,13 +7,13 @@ use mathlib.Core.List.{List, [], _∷_, map}
 use mathlib.Core.Option.{some}
 use lib.ListN.{length, getD, getElem?, length-map}
 use native.Mathlib.Omega.{arith}
-use Rattle.scope.specs.Tests.{never}
-use Rattle.scope.specs.Form as F
-use Rattle.scope.specs.Form.{Form, top, isSf}
-use Rattle.scope.specs.Facts.{Fact}
-use Rattle.scope.specs.Request.{Request, formula}
-use Rattle.scope.specs.Obligation.{Lab, lab, factOf, rootFacts, start}
-use Rattle.scope.specs.Judge.{policyOf, goalOf, stepsOf, startOf}
+use Rattle.scope.specs.Tools.Tests.{never}
+use Rattle.scope.specs.Logic.Form as F
+use Rattle.scope.specs.Logic.Form.{Form, top, isSf}
+use Rattle.scope.specs.Logic.Facts.{Fact}
+use Rattle.scope.specs.File.Request.{Request, formula}
+use Rattle.scope.specs.Logic.Obligation.{Lab, lab, factOf, rootFacts, start}
+use Rattle.scope.specs.Call.Judge.{policyOf, goalOf, stepsOf, startOf}
 use Rattle.unused.specs.Alike.{Used, policyLine, LineAlike, same, unused, Alike}
 use Rattle.unused.specs.Twins.{Shared, Twins, none, twin}
 

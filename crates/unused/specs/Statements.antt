@@ -3,16 +3,16 @@ use Prim.Native.Nat.{ℕ, _*_}
 use mathlib.Core.Path.{_≡_, sym, ap, _∙_}
 use mathlib.Core.List.{List}
 use lib.ListN.{length, length-map}
-use Rattle.scope.specs.Request.{Request}
-use Rattle.scope.specs.Answer.{answer}
+use Rattle.scope.specs.File.Request.{Request}
+use Rattle.scope.specs.Call.Answer.{answer}
 use Rattle.scope.specs.Limits.{mostFormulas, mostPolicyLines, mostSteps}
-use Rattle.scope.specs.Obligation.{stepOf}
-use Rattle.scope.specs.Reader.{read}
-use Rattle.scope.specs.Tables.{Lent, requestOf}
-use Rattle.scope.specs.Checked.{checked}
-use Rattle.scope.specs.Calls.{reading}
-use Rattle.scope.specs.Room.{within}
-use Rattle.scope.specs.Judge.{stepsOf, stepsAnswer, else, judge, judged, gate}
+use Rattle.scope.specs.Logic.Obligation.{stepOf}
+use Rattle.scope.specs.File.Reader.{read}
+use Rattle.scope.specs.Call.Tables.{Lent, requestOf}
+use Rattle.scope.specs.Call.Checked.{checked}
+use Rattle.scope.specs.Call.Calls.{reading}
+use Rattle.scope.specs.Logic.Room.{within}
+use Rattle.scope.specs.Call.Judge.{stepsOf, stepsAnswer, else, judge, printedAfter, gate}
 use Rattle.unused.specs.Alike.{Alike}
 use Rattle.unused.specs.Twins.{within-blind}
 use Rattle.unused.specs.Walks.{walk-alike}
@@ -31,7 +31,7 @@ steps-read q r a = sym (length-map (q .steps) stepOf) ∙ ap length (a .steps) �
 pub same-printed : (s t : List ℕ) (q r : Request) →
     reading (3 * mostFormulas) mostPolicyLines (2 * mostSteps) s ≡ read q →
     reading (3 * mostFormulas) mostPolicyLines (2 * mostSteps) t ≡ read r → Alike q r → gate s ≡ gate t
-unfolding gate judged
+unfolding gate printedAfter
 same-printed s t q r d e a = rw (d, e, same-answer q r a, steps-read q r a)
 
 -- Over tables that both pass their checks.

@@ -6,8 +6,8 @@ use mathlib.Core.Bool.{Bool}
 use mathlib.Core.List.{List, [], _∷_, _++_, map}
 use lib.ListN.{length, getElem?, length-append}
 use native.Mathlib.Omega.{arith}
-use Rattle.scope.specs.Obligation.{Lab, Sequent, Phase, goal, Obligation, ob}
-use Rattle.scope.specs.Room.{openCount, small, within}
+use Rattle.scope.specs.Logic.Obligation.{Lab, Sequent, Phase, goal, Obligation, ob}
+use Rattle.scope.specs.Logic.Room.{openCount, small, within}
 
 -- Clauses in the same number, and the same clause at each number that is used.
 pub record Shared (used : ℕ → Type 0) (cs ds : List Lab) : Type 0 where

@@ -5,15 +5,15 @@ use mathlib.Core.Path.{_≡_, refl}
 use mathlib.Core.Bool.{Bool}
 use mathlib.Core.List.{List, [], _∷_, _++_}
 use lib.ListN.{length}
-use Rattle.scope.specs.Answer.{Answer}
-use Rattle.scope.specs.Obligation.{Obligation, Step}
-use Rattle.scope.specs.Walk.{Move, after, walk}
+use Rattle.scope.specs.Call.Answer.{Answer}
+use Rattle.scope.specs.Logic.Obligation.{Obligation, Step}
+use Rattle.scope.specs.Logic.Walk.{Onward, after, walk}
 use Rattle.unused.specs.Alike.{Used, later}
 use Rattle.unused.specs.Twins.{Twins, none, twin, Blind, twins-append, twins-count}
 use Rattle.unused.specs.Steps.{Moves, go, stop, step-alike}
 
 module _ {used : ℕ → Type 0} (room : ℕ → List Obligation → Bool) (blind : Blind used room) where
-  after-alike : (i : ℕ) {w w′ : List Obligation} {m m′ : Move} (next next′ : List Obligation → Answer) → Twins used w w′ →
+  after-alike : (i : ℕ) {w w′ : List Obligation} {m m′ : Onward} (next next′ : List Obligation → Answer) → Twins used w w′ →
       Moves used m m′ → ((os os′ : List Obligation) → Twins used os os′ → next os ≡ next′ os′) →
       after room i w m next ≡ after room i w′ m′ next′
   unfolding after

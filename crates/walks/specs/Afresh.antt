@@ -3,15 +3,15 @@
 use Prim.Native.Nat.{ℕ, suc}
 use mathlib.Core.Path.{_≡_}
 use mathlib.Core.List.{List, [], _∷_, _++_}
-use Rattle.scope.specs.Facts.{Fact}
-use Rattle.scope.specs.Answer.{answer}
-use Rattle.scope.specs.Obligation.{Obligation}
-use Rattle.scope.specs.Tables.{Lent, requestOf}
-use Rattle.scope.specs.Checked.{checked}
-use Rattle.scope.specs.Judge.{startOf}
-use Rattle.scope.specs.Walk as S
-use Rattle.scope.specs.Walk.{onto, stepOn, has}
-use Rattle.scope.specs.Tests.{never}
+use Rattle.scope.specs.Logic.Facts.{Fact}
+use Rattle.scope.specs.Call.Answer.{answer}
+use Rattle.scope.specs.Logic.Obligation.{Obligation}
+use Rattle.scope.specs.Call.Tables.{Lent, requestOf}
+use Rattle.scope.specs.Call.Checked.{checked}
+use Rattle.scope.specs.Call.Judge.{startOf}
+use Rattle.scope.specs.Logic.Walk as S
+use Rattle.scope.specs.Logic.Walk.{onto, stepOn, has}
+use Rattle.scope.specs.Tools.Tests.{never}
 use Rattle.trip.specs.Trip.{checked-fine}
 use Rattle.facts.specs.Rows.{told}
 use Rattle.facts.specs.Kept.{Aimed}
@@ -36,7 +36,7 @@ pub data After (t : Lent) : ℕ → State → List Obligation → Type 0 where
       stepOn (stepIs (stepIn (t .stepTable) i)) (o .sequent) (o .phase) ≡ onto new →
       After t (suc i) (moved s m) (new ++ waiting)
 
-matched : {T : Reading} {s : State} {waiting : List Obligation} {j : Judged} {mv : S.Move} → Match T s waiting j mv →
+matched : {T : Reading} {s : State} {waiting : List Obligation} {j : Judged} {mv : S.Onward} → Match T s waiting j mv →
     (m : Move) (new : List Obligation) → j ≡ Fits m → mv ≡ onto new → Related T (moved s m) (new ++ waiting)
 matched no-fit m new e f = never cc
 matched (no-room w) m new e f = never cc

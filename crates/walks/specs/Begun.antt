@@ -8,10 +8,10 @@ use native.Mathlib.Nat.{eq-or-lt-of-le}
 use lib.Dec.{eqb}
 use lib.ListN.{length, getD, set, drop, replicate, length-set, length-replicate, getD-replicate, length-map, List·getD-map}
 use lib.Seq.{getD-set-same, getD-set-other, drop-cons, drop-length, ext-getD}
-use Rattle.scope.specs.Form.{Form}
-use Rattle.scope.specs.Facts.{Fact}
+use Rattle.scope.specs.Logic.Form.{Form}
+use Rattle.scope.specs.Logic.Facts.{Fact}
 use Rattle.scope.specs.Limits.{mostClauses}
-use Rattle.scope.specs.Obligation.{Lab, lab, factOf, rootFacts, start}
+use Rattle.scope.specs.Logic.Obligation.{Lab, lab, factOf, rootFacts, start}
 use Rattle.facts.specs.Rows.{rootRows, noted}
 use Rattle.facts.specs.Kept.{Kept}
 use Rattle.facts.specs.Noted.{kept-note}

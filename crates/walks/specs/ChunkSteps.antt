@@ -6,14 +6,14 @@ use mathlib.Core.List.{List, [], _∷_, _++_}
 use native.Mathlib.Omega.{arith}
 use lib.Dec.{leb}
 use lib.ListN.{length, getD, length-append}
-use Rattle.scope.specs.Form.{Form}
-use Rattle.scope.specs.Facts as Fact
-use Rattle.scope.specs.Facts.{Fact}
-use Rattle.scope.specs.Obligation as O
+use Rattle.scope.specs.Logic.Form.{Form}
+use Rattle.scope.specs.Logic.Facts as Fact
+use Rattle.scope.specs.Logic.Facts.{Fact}
+use Rattle.scope.specs.Logic.Obligation as O
 use Rattle.scope.specs.Limits.{mostWorlds, mostClauses, mostOpen, mostChunks}
-use Rattle.scope.specs.Obligation.{Lab, lab, Sequent, withFact, withClause, Phase, chunks, behind, Obligation, ob}
-use Rattle.scope.specs.Room.{chunkCount, metCount, openCount, within}
-use Rattle.scope.specs.Walk.{Move, onto, alone, stepOn}
+use Rattle.scope.specs.Logic.Obligation.{Lab, lab, Sequent, withFact, withClause, Phase, chunks, behind, Obligation, ob}
+use Rattle.scope.specs.Logic.Room.{chunkCount, metCount, openCount, within}
+use Rattle.scope.specs.Logic.Walk.{Onward, onto, alone, stepOn}
 use Rattle.moves.specs.declared.Judged.{Judged}
 use Rattle.moves.specs.declared.Judged.the-variants.{Fits, No}
 use Rattle.moves.specs.declared.Row as R
@@ -70,7 +70,7 @@ module _ {T : Reading} {rows cl ats ch sv : List ℕ} {stack : Stack} {es : List
   abbrev there : Phase
   there = chunks (T .tree topmost) rest aim
 
-  abbrev Fit : Judged → Move → Type 0
+  abbrev Fit : Judged → Onward → Type 0
   Fit = Match T (stateOf rows stack (suc n) cl ats) waiting
 
   abbrev w : ℕ

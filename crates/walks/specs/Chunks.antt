@@ -6,8 +6,8 @@ use mathlib.Core.List.{List}
 use native.Mathlib.Omega.{arith}
 use lib.ListN.{length, getD, set, length-set}
 use Rattle.scope.specs.Limits.{mostOpen, mostChunks}
-use Rattle.scope.specs.Facts.{Fact}
-use Rattle.scope.specs.Obligation.{Lab}
+use Rattle.scope.specs.Logic.Facts.{Fact}
+use Rattle.scope.specs.Logic.Obligation.{Lab}
 use Rattle.moves.specs.declared.Lab as L
 use Rattle.moves.specs.declared.Phase as D
 use Rattle.moves.specs.declared.Phase.the-variants as phase

@@ -9,11 +9,11 @@ use native.Mathlib.Omega.{arith}
 use native.Mathlib.Nat.{eq-or-lt-of-le}
 use lib.ListN.{length, getD, getElem?, List·getD-append}
 use lib.Seq.{getD-at}
-use Rattle.scope.specs.Form.{Form}
-use Rattle.scope.specs.Facts.{Fact}
-use Rattle.scope.specs.Obligation.{Lab, lab, Sequent, Phase, ob}
+use Rattle.scope.specs.Logic.Form.{Form}
+use Rattle.scope.specs.Logic.Facts.{Fact}
+use Rattle.scope.specs.Logic.Obligation.{Lab, lab, Sequent, Phase, ob}
 use Rattle.scope.specs.Limits.{mostClauses, mostOpen, mostChunks}
-use Rattle.scope.specs.Room.{chunkCount, metCount, openCount, small, within}
+use Rattle.scope.specs.Logic.Room.{chunkCount, metCount, openCount, small, within}
 use Rattle.moves.specs.declared.Phase as D
 use Rattle.machine.specs.Machine.{Stack}
 use Rattle.walks.specs.Trees.{Reading}

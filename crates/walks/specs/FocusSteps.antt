@@ -6,13 +6,13 @@ use mathlib.Core.List.{List, [], _∷_, _++_, map}
 use native.Mathlib.Omega.{arith}
 use lib.Dec.{eqb, leb, ltb}
 use lib.ListN.{length, length-append}
-use Rattle.scope.specs.Facts as Fact
-use Rattle.scope.specs.Facts.{Fact}
+use Rattle.scope.specs.Logic.Facts as Fact
+use Rattle.scope.specs.Logic.Facts.{Fact}
 use Rattle.scope.specs.Limits.{mostOpen}
-use Rattle.scope.specs.Obligation as O
-use Rattle.scope.specs.Obligation.{Lab, lab, Sequent, Phase, goal, focus, Obligation, ob}
-use Rattle.scope.specs.Room.{chunkCount, metCount, openCount, within}
-use Rattle.scope.specs.Walk.{Move, onto, alone, need, has, stepOn}
+use Rattle.scope.specs.Logic.Obligation as O
+use Rattle.scope.specs.Logic.Obligation.{Lab, lab, Sequent, Phase, goal, focus, Obligation, ob}
+use Rattle.scope.specs.Logic.Room.{chunkCount, metCount, openCount, within}
+use Rattle.scope.specs.Logic.Walk.{Onward, onto, alone, need, has, stepOn}
 use Rattle.facts.specs.Rows.{told}
 use Rattle.moves.specs.declared.Judged.{Judged}
 use Rattle.moves.specs.declared.Judged.the-variants.{Fits, No}
@@ -52,7 +52,7 @@ module _ {T : Reading} {rows cl ats ch sv : List ℕ} {stack : Stack} {es : List
   abbrev row : R.Row
   row = rowAt (T .table) f
 
-  abbrev Fit : Judged → Move → Type 0
+  abbrev Fit : Judged → Onward → Type 0
   Fit = Match T (stateOf rows stack (suc n) cl ats) waiting
 
   -- The subgoals met and those that wait lie below.

@@ -8,14 +8,14 @@ use native.Mathlib.Omega.{arith}
 use lib.Dec.{eqb, leb}
 use lib.ListN.{length, getD, getElem?}
 use borrow.Author.Tests.{leb-true, leb-false}
-use Rattle.scope.specs.Form.{Form, isSf}
-use Rattle.scope.specs.Facts as Fact
-use Rattle.scope.specs.Facts.{Fact}
+use Rattle.scope.specs.Logic.Form.{Form, isSf}
+use Rattle.scope.specs.Logic.Facts as Fact
+use Rattle.scope.specs.Logic.Facts.{Fact}
 use Rattle.scope.specs.Limits.{mostWorlds, mostOpen}
-use Rattle.scope.specs.Obligation as O
-use Rattle.scope.specs.Obligation.{Lab, lab, Sequent, withWorld, Phase, goal, chunks, focus, Obligation, ob}
-use Rattle.scope.specs.Room.{chunkCount, metCount, openCount}
-use Rattle.scope.specs.Walk.{Move, onto, alone, need, has, stepOn, onClause}
+use Rattle.scope.specs.Logic.Obligation as O
+use Rattle.scope.specs.Logic.Obligation.{Lab, lab, Sequent, withWorld, Phase, goal, chunks, focus, Obligation, ob}
+use Rattle.scope.specs.Logic.Room.{chunkCount, metCount, openCount}
+use Rattle.scope.specs.Logic.Walk.{Onward, onto, alone, need, has, stepOn, onClause}
 use Rattle.facts.specs.Rows.{told}
 use Rattle.moves.specs.declared.Judged.{Judged}
 use Rattle.moves.specs.declared.Judged.the-variants.{Fits, No}
@@ -49,7 +49,7 @@ module _ {T : Reading} {rows cl ats ch sv : List ℕ} {stack : Stack} {es : List
   abbrev here : Sequent
   here = seq T (suc m) fs ls
 
-  abbrev Fit : Judged → Move → Type 0
+  abbrev Fit : Judged → Onward → Type 0
   Fit = Match T (stateOf rows stack (suc n) cl ats) waiting
 
   abbrev there : Phase
@@ -144,7 +144,7 @@ module _ {T : Reading} {rows cl ats ch sv : List ℕ} {stack : Stack} {es : List
   abbrev into : L.Lab → Judged
   into clause = Fits (move.Aim (clause .form) (clause .at))
 
-  abbrev aiming : ℕ → Lab → Move
+  abbrev aiming : ℕ → Lab → Onward
   aiming q l = alone here (focus l q u [])
 
   clause-fits : (i q : ℕ) → q ≡ rowAt (T .table) f .left →

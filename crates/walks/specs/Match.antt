@@ -7,14 +7,14 @@ use mathlib.Core.List.{List, _++_}
 use lib.Dec.{eqb, leb, ltb}
 use lib.ListN.{length}
 use borrow.Author.Tests.{leb-true, leb-false, lt-ltb, le-ltb}
-use Rattle.scope.specs.Form.{Form, isSf}
-use Rattle.scope.specs.Facts.{Fact}
-use Rattle.scope.specs.Held.{holds}
-use Rattle.scope.specs.Agree.{agree-sound, agree-full}
-use Rattle.scope.specs.Obligation.{Lab, Obligation}
-use Rattle.scope.specs.Room.{within}
-use Rattle.scope.specs.Walk.{Move, onto, refuse, need, has, onAtom, onTop, onBot, onAnd, onOr, onImp, onSays, onSf, onImpSays, onPushed}
-use Rattle.scope.specs.Tests.{never}
+use Rattle.scope.specs.Logic.Form.{Form, isSf}
+use Rattle.scope.specs.Logic.Facts.{Fact}
+use Rattle.scope.specs.Logic.Held.{holds}
+use Rattle.scope.specs.Closing.Agree.{agree-sound, agree-full}
+use Rattle.scope.specs.Logic.Obligation.{Lab, Obligation}
+use Rattle.scope.specs.Logic.Room.{within}
+use Rattle.scope.specs.Logic.Walk.{Onward, onto, refuse, need, has, onAtom, onTop, onBot, onAnd, onOr, onImp, onSays, onSf, onImpSays, onPushed}
+use Rattle.scope.specs.Tools.Tests.{never}
 use Rattle.facts.specs.Rows.{told}
 use Rattle.facts.specs.Kept.{Kept, Aimed}
 use Rattle.moves.specs.declared.Judged.{Judged}
@@ -25,7 +25,7 @@ use Rattle.machine.specs.Machine.{State, moved}
 use Rattle.walks.specs.Trees.{Means, byMeans, Reading}
 use Rattle.walks.specs.Related.{Related, seq}
 
-pub data Match (T : Reading) (s : State) (waiting : List Obligation) : Judged → Move → Type 0 where
+pub data Match (T : Reading) (s : State) (waiting : List Obligation) : Judged → Onward → Type 0 where
   no-fit : {k : ℕ} → Match T s waiting (No k) (refuse k)
   no-room : {os : List Obligation} → within (length waiting) os ≡ false → Match T s waiting (No 10) (onto os)
   fits : {m : M.Move} {os : List Obligation} → within (length waiting) os ≡ true → Related T (moved s m) (os ++ waiting) →
@@ -48,7 +48,7 @@ told-has T {n} {fs} {rows} ls f kept aimed =
 
 module _ {T : Reading} {s : State} {waiting : List Obligation} where
   -- The limit is tested last.
-  pub if-room : (a b : ℕ) {j : Judged} {mv : Move} → (a ≤ b → Match T s waiting (No 10) mv) → (b < a → Match T s waiting j mv) →
+  pub if-room : (a b : ℕ) {j : Judged} {mv : Onward} → (a ≤ b → Match T s waiting (No 10) mv) → (b < a → Match T s waiting j mv) →
       Match T s waiting (pick (leb a b) (No 10) j) mv
   unfolding pick
   if-room a b {j} {mv} full free = go (leb a b) refl
@@ -57,7 +57,7 @@ module _ {T : Reading} {s : State} {waiting : List Obligation} where
       go true e = full (leb-true a b e)
       go false e = free (leb-false a b e)
 
-  pub if-need : (k : ℕ) (a b : Bool) {j : Judged} {mv : Move} → a ≡ b → Match T s waiting j mv →
+  pub if-need : (k : ℕ) (a b : Bool) {j : Judged} {mv : Onward} → a ≡ b → Match T s waiting j mv →
       Match T s waiting (pick a j (No k)) (need k b mv)
   unfolding pick need
   if-need k true true e m = m
@@ -65,7 +65,7 @@ module _ {T : Reading} {s : State} {waiting : List Obligation} where
   if-need k false true e m = never cc
   if-need k false false e m = no-fit
 
-  pub if-below : (v n : ℕ) {j : Judged} {mv : Move} → (v < n → Match T s waiting j mv) →
+  pub if-below : (v n : ℕ) {j : Judged} {mv : Onward} → (v < n → Match T s waiting j mv) →
       Match T s waiting (pick (leb n v) (No 8) j) (need 8 (ltb v n) mv)
   unfolding pick need
   if-below v n {j} {mv} m = go (leb n v) refl
@@ -76,7 +76,7 @@ module _ {T : Reading} {s : State} {waiting : List Obligation} where
 
   module _ {kind l r : ℕ} {t : Form} where
     -- The atom is the row's own number.
-    pub only-atom : (j : ℕ → ℕ → Judged) (mv : ℕ → Move) → ((p r : ℕ) → p ≡ l → Match T s waiting (j p r) (mv p)) →
+    pub only-atom : (j : ℕ → ℕ → Judged) (mv : ℕ → Onward) → ((p r : ℕ) → p ≡ l → Match T s waiting (j p r) (mv p)) →
         Means (T .principals) (T .formulas) (T .tree) kind l r t → Match T s waiting (pick (eqb kind 0) (j l r) (No 7)) (onAtom t mv)
     unfolding pick onAtom
     only-atom j mv m means =
@@ -84,7 +84,7 @@ module _ {T : Reading} {s : State} {waiting : List Obligation} where
         m (λ l r e. no-fit) (λ l r e. no-fit) (λ f g p q e. no-fit) (λ f g p q e. no-fit) (λ f g p q e. no-fit) (λ a g p q e. no-fit)
         (λ a b p q e. no-fit) means refl
 
-    pub only-top : {j : Judged} {mv : Move} → Match T s waiting j mv →
+    pub only-top : {j : Judged} {mv : Onward} → Match T s waiting j mv →
         Means (T .principals) (T .formulas) (T .tree) kind l r t → Match T s waiting (pick (eqb kind 1) j (No 7)) (onTop t mv)
     unfolding pick onTop
     only-top {j} {mv} m =
@@ -92,7 +92,7 @@ module _ {T : Reading} {s : State} {waiting : List Obligation} where
         (λ p r. no-fit) (λ l r. m) (λ l r. no-fit) (λ f g p q. no-fit) (λ f g p q. no-fit) (λ f g p q. no-fit) (λ a g p q. no-fit)
         (λ a b p q. no-fit)
 
-    pub only-bot : {j : Judged} {mv : Move} → Match T s waiting j mv →
+    pub only-bot : {j : Judged} {mv : Onward} → Match T s waiting j mv →
         Means (T .principals) (T .formulas) (T .tree) kind l r t → Match T s waiting (pick (eqb kind 2) j (No 7)) (onBot t mv)
     unfolding pick onBot
     only-bot {j} {mv} m =
@@ -100,7 +100,7 @@ module _ {T : Reading} {s : State} {waiting : List Obligation} where
         (λ p r. no-fit) (λ l r. no-fit) (λ l r. m) (λ f g p q. no-fit) (λ f g p q. no-fit) (λ f g p q. no-fit) (λ a g p q. no-fit)
         (λ a b p q. no-fit)
 
-    pub only-and : (j : ℕ → ℕ → Judged) (mv : Form → Form → Move) →
+    pub only-and : (j : ℕ → ℕ → Judged) (mv : Form → Form → Onward) →
         ((f g : ℕ) → f < T .formulas → g < T .formulas → Match T s waiting (j f g) (mv (T .tree f) (T .tree g))) →
         Means (T .principals) (T .formulas) (T .tree) kind l r t → Match T s waiting (pick (eqb kind 3) (j l r) (No 7)) (onAnd t mv)
     unfolding pick onAnd
@@ -108,7 +108,7 @@ module _ {T : Reading} {s : State} {waiting : List Obligation} where
         byMeans (λ k l r t. Match T s waiting (pick (eqb k 3) (j l r) (No 7)) (onAnd t mv))
         (λ p r. no-fit) (λ l r. no-fit) (λ l r. no-fit) m (λ f g p q. no-fit) (λ f g p q. no-fit) (λ a g p q. no-fit) (λ a b p q. no-fit)
 
-    pub only-or : (j : ℕ → ℕ → Judged) (mv : Form → Form → Move) →
+    pub only-or : (j : ℕ → ℕ → Judged) (mv : Form → Form → Onward) →
         ((f g : ℕ) → f < T .formulas → g < T .formulas → Match T s waiting (j f g) (mv (T .tree f) (T .tree g))) →
         Means (T .principals) (T .formulas) (T .tree) kind l r t → Match T s waiting (pick (eqb kind 4) (j l r) (No 7)) (onOr t mv)
     unfolding pick onOr
@@ -116,7 +116,7 @@ module _ {T : Reading} {s : State} {waiting : List Obligation} where
         byMeans (λ k l r t. Match T s waiting (pick (eqb k 4) (j l r) (No 7)) (onOr t mv))
         (λ p r. no-fit) (λ l r. no-fit) (λ l r. no-fit) (λ f g p q. no-fit) m (λ f g p q. no-fit) (λ a g p q. no-fit) (λ a b p q. no-fit)
 
-    pub only-imp : (j : ℕ → ℕ → Judged) (mv : Form → Form → Move) →
+    pub only-imp : (j : ℕ → ℕ → Judged) (mv : Form → Form → Onward) →
         ((f g : ℕ) → f < T .formulas → g < T .formulas → Match T s waiting (j f g) (mv (T .tree f) (T .tree g))) →
         Means (T .principals) (T .formulas) (T .tree) kind l r t → Match T s waiting (pick (eqb kind 5) (j l r) (No 7)) (onImp t mv)
     unfolding pick onImp
@@ -124,7 +124,7 @@ module _ {T : Reading} {s : State} {waiting : List Obligation} where
         byMeans (λ k l r t. Match T s waiting (pick (eqb k 5) (j l r) (No 7)) (onImp t mv))
         (λ p r. no-fit) (λ l r. no-fit) (λ l r. no-fit) (λ f g p q. no-fit) (λ f g p q. no-fit) m (λ a g p q. no-fit) (λ a b p q. no-fit)
 
-    pub only-says : (j : ℕ → ℕ → Judged) (mv : ℕ → Form → Move) →
+    pub only-says : (j : ℕ → ℕ → Judged) (mv : ℕ → Form → Onward) →
         ((a g : ℕ) → a < T .principals → g < T .formulas → Match T s waiting (j a g) (mv a (T .tree g))) →
         Means (T .principals) (T .formulas) (T .tree) kind l r t → Match T s waiting (pick (eqb kind 6) (j l r) (No 7)) (onSays t mv)
     unfolding pick onSays
@@ -132,7 +132,7 @@ module _ {T : Reading} {s : State} {waiting : List Obligation} where
         byMeans (λ k l r t. Match T s waiting (pick (eqb k 6) (j l r) (No 7)) (onSays t mv))
         (λ p r. no-fit) (λ l r. no-fit) (λ l r. no-fit) (λ f g p q. no-fit) (λ f g p q. no-fit) (λ f g p q. no-fit) m (λ a b p q. no-fit)
 
-    pub only-sf : (j : ℕ → ℕ → Judged) (mv : ℕ → ℕ → Move) →
+    pub only-sf : (j : ℕ → ℕ → Judged) (mv : ℕ → ℕ → Onward) →
         ((a b : ℕ) → a < T .principals → b < T .principals → Match T s waiting (j a b) (mv a b)) →
         Means (T .principals) (T .formulas) (T .tree) kind l r t → Match T s waiting (pick (eqb kind 7) (j l r) (No 7)) (onSf t mv)
     unfolding pick onSf
@@ -141,7 +141,7 @@ module _ {T : Reading} {s : State} {waiting : List Obligation} where
         (λ p r. no-fit) (λ l r. no-fit) (λ l r. no-fit) (λ f g p q. no-fit) (λ f g p q. no-fit) (λ f g p q. no-fit) (λ a g p q. no-fit) m
 
     -- `to` goes on from an `imp` and from a `says`.
-    pub only-imp-says : (j i : ℕ → ℕ → Judged) (mv : Form → Form → Move) (nv : ℕ → Form → Move) →
+    pub only-imp-says : (j i : ℕ → ℕ → Judged) (mv : Form → Form → Onward) (nv : ℕ → Form → Onward) →
         ((f g : ℕ) → f < T .formulas → g < T .formulas → Match T s waiting (j f g) (mv (T .tree f) (T .tree g))) →
         ((a g : ℕ) → a < T .principals → g < T .formulas → Match T s waiting (i a g) (nv a (T .tree g))) →
         Means (T .principals) (T .formulas) (T .tree) kind l r t →
@@ -151,7 +151,7 @@ module _ {T : Reading} {s : State} {waiting : List Obligation} where
         byMeans (λ k l r t. Match T s waiting (pick (eqb k 5) (j l r) (pick (eqb k 6) (i l r) (No 7))) (onImpSays t mv nv))
         (λ p r. no-fit) (λ l r. no-fit) (λ l r. no-fit) (λ f g p q. no-fit) (λ f g p q. no-fit) m n (λ a b p q. no-fit)
 
-    pub only-pushed : {j : Judged} {mv : Move} → Match T s waiting j mv →
+    pub only-pushed : {j : Judged} {mv : Onward} → Match T s waiting j mv →
         Means (T .principals) (T .formulas) (T .tree) kind l r t → Match T s waiting (pick (pushedKind kind) j (No 7)) (onPushed t mv)
     unfolding pick pushedKind onPushed
     only-pushed {j} {mv} m =

@@ -9,10 +9,10 @@ use native.Mathlib.Numerals.{add-one}
 use borrow.Author.Tests.{le-leb, lt-leb}
 use lib.ListN.{length, getD, set, length-set}
 use lib.Seq.{getD-set-same, getD-set-other}
-use Rattle.scope.specs.Facts.{Fact}
+use Rattle.scope.specs.Logic.Facts.{Fact}
 use Rattle.scope.specs.Limits.{mostOpen}
-use Rattle.scope.specs.Obligation.{Lab, Sequent, Phase, Obligation, ob}
-use Rattle.scope.specs.Tests.{never}
+use Rattle.scope.specs.Logic.Obligation.{Lab, Sequent, Phase, Obligation, ob}
+use Rattle.scope.specs.Tools.Tests.{never}
 use Rattle.facts.specs.Rows.{sfRows, putSf}
 use Rattle.facts.specs.Kept.{Kept, sf-length, agree-self, agree-put, kept-back}
 use Rattle.moves.specs.declared.Phase as D

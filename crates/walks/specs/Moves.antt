@@ -8,10 +8,10 @@ use native.Mathlib.Numerals.{add-one}
 use lib.Dec.{leb·suc-zero}
 use lib.ListN.{length, getD, set, length-set}
 use lib.Seq.{getD-set-same}
-use Rattle.scope.specs.Form.{Form}
-use Rattle.scope.specs.Facts.{Fact, le, by, sf}
+use Rattle.scope.specs.Logic.Form.{Form}
+use Rattle.scope.specs.Logic.Facts.{Fact, le, by, sf}
 use Rattle.scope.specs.Limits.{mostWorlds, mostClauses, mostOpen, mostChunks}
-use Rattle.scope.specs.Obligation.{Lab, lab, Sequent, Phase, goal, chunks, focus, behind, Obligation, ob}
+use Rattle.scope.specs.Logic.Obligation.{Lab, lab, Sequent, Phase, goal, chunks, focus, behind, Obligation, ob}
 use Rattle.facts.specs.Rows.{noted}
 use Rattle.facts.specs.Kept.{Kept}
 use Rattle.moves.specs.declared.Lab as L

@@ -6,11 +6,11 @@ use mathlib.Core.List.{List, []}
 use native.Mathlib.Omega.{arith}
 use lib.ListN.{length, getD, take}
 use lib.Seq.{length-take-le}
-use Rattle.scope.specs.Request.{Row}
-use Rattle.scope.specs.Kinds.{formKinds}
-use Rattle.scope.specs.Refusals.{formRefusal}
-use Rattle.scope.specs.Tables.{Lent, formEntry, lineEntry, unpack, requestOf}
-use Rattle.scope.specs.Unpack.{unpack-length}
+use Rattle.scope.specs.File.Request.{Row}
+use Rattle.scope.specs.File.Kinds.{formKinds}
+use Rattle.scope.specs.File.Refusals.{formRefusal}
+use Rattle.scope.specs.Call.Tables.{Lent, formEntry, lineEntry, unpack, requestOf}
+use Rattle.scope.specs.Tools.Unpack.{unpack-length}
 use Rattle.trip.specs.RowRanges as ranges
 use Rattle.trip.specs.RowRanges.{row-passed}
 use Rattle.trip.specs.Small.{count-passed, clause-named, goal-named}

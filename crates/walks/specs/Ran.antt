@@ -8,12 +8,12 @@ use native.Mathlib.Numerals.{add-one}
 use lib.Dec.{eqb}
 use lib.ListN.{getD}
 use borrow.Author.Tests.{ne-eqb}
-use Rattle.scope.specs.Facts.{Fact}
-use Rattle.scope.specs.Answer.{Answer, answer}
-use Rattle.scope.specs.Obligation as O
-use Rattle.scope.specs.Obligation.{Lab, Phase, Obligation}
-use Rattle.scope.specs.Room.{within}
-use Rattle.scope.specs.Walk.{Move, stepOn, after, walk}
+use Rattle.scope.specs.Logic.Facts.{Fact}
+use Rattle.scope.specs.Call.Answer.{Answer, answer}
+use Rattle.scope.specs.Logic.Obligation as O
+use Rattle.scope.specs.Logic.Obligation.{Lab, Phase, Obligation}
+use Rattle.scope.specs.Logic.Room.{within}
+use Rattle.scope.specs.Logic.Walk.{Onward, stepOn, after, walk}
 use Rattle.moves.specs.declared.Judged.{Judged}
 use Rattle.moves.specs.declared.Move as M
 use Rattle.moves.specs.declared.Phase as D
@@ -71,7 +71,7 @@ stepped {T} (now-open {rows} {cl} {ats} {ch} {sv} {stack} {n} {m} {c} {ph} frame
     rw (judged-at (T .table) rows stack n cl ats x (headOf ph (suc m) c) (head-is stack n (frame .on-top))) (by-phase frame down stands waits x)
 
 -- What follows a step.
-after-match : {T : Reading} {s : State} {waiting : List Obligation} {j : Judged} {mv : Move} → Match T s waiting j mv →
+after-match : {T : Reading} {s : State} {waiting : List Obligation} {j : Judged} {mv : Onward} → Match T s waiting j mv →
     (i : ℕ) (next : M.Move → Walked) (go : List Obligation → Answer) →
     ((m : M.Move) (os : List Obligation) → Related T (moved s m) os → walkedAnswer (next m) ≡ go os) →
     walkedAnswer (goOn j i next) ≡ after within i waiting mv go

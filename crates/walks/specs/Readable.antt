@@ -5,11 +5,11 @@ use mathlib.Core.List.{List, []}
 use native.Mathlib.Omega.{arith}
 use lib.ListN.{length, getD, take}
 use lib.Seq.{getD-take}
-use Rattle.scope.specs.Form.{Form, top}
-use Rattle.scope.specs.Request.{Row, rowForm, formsAfter, formula}
-use Rattle.scope.specs.Kinds.{kindIn, formKinds}
-use Rattle.scope.specs.Tables.{Lent, formEntry, unpack}
-use Rattle.scope.specs.Unpack.{unpack-length}
+use Rattle.scope.specs.Logic.Form.{Form, top}
+use Rattle.scope.specs.File.Request.{Row, rowForm, formsAfter, formula}
+use Rattle.scope.specs.File.Kinds.{kindIn, formKinds}
+use Rattle.scope.specs.Call.Tables.{Lent, formEntry, unpack}
+use Rattle.scope.specs.Tools.Unpack.{unpack-length}
 use Rattle.trip.specs.RowRanges as ranges
 use Rattle.moves.specs.Judge.{rowAt}
 use Rattle.walks.specs.Trees.{Means, means-atom, means-top, means-bot, means-and, means-or, means-imp, means-says, means-sf, Reading}

@@ -5,10 +5,10 @@ use Prim.Native.Nat.{ℕ, zero, suc, _<_, _≤_}
 use mathlib.Core.Path.{_≡_}
 use mathlib.Core.List.{List, [], _∷_, _++_, map}
 use lib.ListN.{length, getD}
-use Rattle.scope.specs.Form.{Form}
-use Rattle.scope.specs.Facts.{Fact}
+use Rattle.scope.specs.Logic.Form.{Form}
+use Rattle.scope.specs.Logic.Facts.{Fact}
 use Rattle.scope.specs.Limits.{mostClauses, mostOpen, mostChunks}
-use Rattle.scope.specs.Obligation.{Lab, lab, Sequent, Phase, goal, chunks, focus, Obligation, ob}
+use Rattle.scope.specs.Logic.Obligation.{Lab, lab, Sequent, Phase, goal, chunks, focus, Obligation, ob}
 use Rattle.facts.specs.Rows.{sfRows}
 use Rattle.facts.specs.Kept.{Kept, Agree}
 use Rattle.moves.specs.declared.Phase as D

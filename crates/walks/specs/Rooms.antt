@@ -8,10 +8,10 @@ use native.Mathlib.Omega.{arith}
 use lib.Dec.{leb}
 use lib.ListN.{length, length-append, length-map}
 use borrow.Author.Tests.{le-leb, lt-leb}
-use Rattle.scope.specs.Form.{Form, both}
+use Rattle.scope.specs.Logic.Form.{Form, both}
 use Rattle.scope.specs.Limits.{mostWorlds, mostClauses, mostOpen, mostChunks}
-use Rattle.scope.specs.Obligation.{Lab, Sequent, Phase, goal, chunks, focus, Obligation, ob}
-use Rattle.scope.specs.Room.{chunkCount, metCount, openCount, small, within}
+use Rattle.scope.specs.Logic.Obligation.{Lab, Sequent, Phase, goal, chunks, focus, Obligation, ob}
+use Rattle.scope.specs.Logic.Room.{chunkCount, metCount, openCount, small, within}
 use Rattle.walks.specs.Related.{labs, chunksOf, metIn}
 
 -- Worlds, clauses and chunks of an obligation are within the limits.

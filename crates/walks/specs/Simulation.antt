@@ -2,14 +2,14 @@
 use mathlib.Core.Path.{_≡_, ap, _∙_}
 use mathlib.Core.List.{List, [], _∷_}
 use native.Mathlib.Omega.{arith}
-use Rattle.scope.specs.Answer.{answer}
-use Rattle.scope.specs.Obligation.{Step}
-use Rattle.scope.specs.Room.{within}
-use Rattle.scope.specs.Walk.{walk}
-use Rattle.scope.specs.Tables.{Lent, lineEntry, unpack, requestOf}
-use Rattle.scope.specs.Unpack.{unpack-length}
-use Rattle.scope.specs.Checked.{checked}
-use Rattle.scope.specs.Judge.{stepsOf, startOf, stepsAnswer}
+use Rattle.scope.specs.Call.Answer.{answer}
+use Rattle.scope.specs.Logic.Obligation.{Step}
+use Rattle.scope.specs.Logic.Room.{within}
+use Rattle.scope.specs.Logic.Walk.{walk}
+use Rattle.scope.specs.Call.Tables.{Lent, lineEntry, unpack, requestOf}
+use Rattle.scope.specs.Tools.Unpack.{unpack-length}
+use Rattle.scope.specs.Call.Checked.{checked}
+use Rattle.scope.specs.Call.Judge.{stepsOf, startOf, stepsAnswer}
 use Rattle.trip.specs.Trip.{checked-fine}
 use Rattle.machine.specs.Machine.{begun, ran}
 use Rattle.walks.specs.Unpacked.{line-at, steps-are}

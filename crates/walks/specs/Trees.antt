@@ -7,8 +7,8 @@ use native.Mathlib.Omega.{arith}
 use native.Mathlib.Nat.{add-zero, zero-add}
 use lib.ListN.{length, getD, take, length-append}
 use lib.Seq.{take-append-seam, getD-append-seam}
-use Rattle.scope.specs.Form.{Form, atom, top, bot, and, or, imp, says, sf}
-use Rattle.scope.specs.Request.{Row, rowForm, formsAfter, formula}
+use Rattle.scope.specs.Logic.Form.{Form, atom, top, bot, and, or, imp, says, sf}
+use Rattle.scope.specs.File.Request.{Row, rowForm, formsAfter, formula}
 use Rattle.moves.specs.Judge.{rowAt}
 
 -- The row (kind, left, right) means a tree, where its operands are among F formulas and k principals.

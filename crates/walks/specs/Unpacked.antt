@@ -6,9 +6,9 @@ use native.Mathlib.Omega.{arith}
 use native.Mathlib.Nat.{add-zero}
 use lib.ListN.{getD, take, drop}
 use lib.Seq.{getD-take, getD-drop, drop-drop}
-use Rattle.scope.specs.Request.{Row}
-use Rattle.scope.specs.Obligation.{stepOf}
-use Rattle.scope.specs.Tables.{Entry, formEntry, lineEntry, stepEntry, unpack}
+use Rattle.scope.specs.File.Request.{Row}
+use Rattle.scope.specs.Logic.Obligation.{stepOf}
+use Rattle.scope.specs.Call.Tables.{Entry, formEntry, lineEntry, stepEntry, unpack}
 use Rattle.steps.specs.Steps.{stepIs, step-means}
 use Rattle.moves.specs.Judge.{rowAt}
 use Rattle.machine.specs.Machine.{stepIn}

@@ -8,9 +8,9 @@ use native.Mathlib.Omega.{arith}
 use native.Mathlib.Nat.{eq-or-lt-of-le}
 use lib.ListN.{length, getD, set}
 use lib.Seq.{getD-set-same, getD-set-other}
-use Rattle.scope.specs.Form.{Form}
+use Rattle.scope.specs.Logic.Form.{Form}
 use Rattle.scope.specs.Limits.{mostClauses}
-use Rattle.scope.specs.Obligation.{Lab, lab, Obligation}
+use Rattle.scope.specs.Logic.Obligation.{Lab, lab, Obligation}
 use Rattle.facts.specs.Kept.{Agree, agree-self, agree-then}
 use Rattle.machine.specs.declared.Obligation as E
 use Rattle.machine.specs.Tables.{block}

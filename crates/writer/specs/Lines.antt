@@ -6,11 +6,11 @@ use mathlib.Core.List.{List, [], _∷_, _++_, append-assoc, append-nil, map}
 use borrow.Author.Tests.{lt-ltb, le-ltb}
 use lib.ListN.{length, take, getD, set, replicate, List·getD-eq-default}
 use lib.Seq.{take-nil, getD-set-other}
-use Rattle.scope.specs.Request.{Row}
-use Rattle.scope.specs.Number.{digit, numeral}
-use Rattle.scope.specs.Line.{Line, lineText}
-use Rattle.scope.specs.Kinds.{Kind, kind, kindIn, spaced, rowText, rowShape, formKinds, stepKinds}
-use Rattle.scope.specs.Text.{numberShape}
+use Rattle.scope.specs.File.Request.{Row}
+use Rattle.scope.specs.File.Number.{digit, numeral}
+use Rattle.scope.specs.File.Line.{Line, lineText}
+use Rattle.scope.specs.File.Kinds.{Kind, kind, kindIn, spaced, rowText, rowShape, formKinds, stepKinds}
+use Rattle.scope.specs.File.Text.{numberShape}
 use Rattle.writer.specs.Puts.{Puts, puts-none, puts-same}
 
 -- A number's digits, where there are 1 to 5 of them: each place's digit stands in its own byte.

@@ -7,7 +7,7 @@ use mathlib.Core.Path.{_≡_, refl, ap, sym, _∙_}
 use mathlib.Core.List.{List, [], _∷_, _++_}
 use lib.ListN.{length, getD, drop, set, replicate, length-append, length-replicate, drop-of-length-le}
 use lib.Seq.{sets, sets-eq, drop-cons}
-use Rattle.scope.specs.Tables.{padded}
+use Rattle.scope.specs.Call.Tables.{padded}
 
 -- The output before and after, where the text begins and ends, and the most bytes that such a text has.
 pub record Puts (before : List ℕ) (at : ℕ) (text : List ℕ) (most : ℕ) (after : List ℕ) (end : ℕ) : Type 0 where

@@ -8,13 +8,13 @@ use mathlib.Core.Bool.{Bool, true, false, cond}
 use lib.Dec.{leb}
 use lib.ListN.{length, take, replicate}
 use lib.Seq.{take-append-seam}
-use Rattle.scope.specs.Answer.{Answer, answer, refusalIn, placeIn}
-use Rattle.scope.specs.Request.{Request}
-use Rattle.scope.specs.Text.{requestText}
-use Rattle.scope.specs.Reader.{read}
-use Rattle.scope.specs.Tables.{Lent, requestOf, lentOf, padded}
-use Rattle.scope.specs.Checked.{checked}
-use Rattle.scope.specs.Calls.{written, unwritten, writtenIf, writing, writtenAnswer, textIn, outputAfter, reading, requestIn, formTableAfter, lineTableAfter, stepTableAfter, lentAfter}
+use Rattle.scope.specs.Call.Answer.{Answer, answer, refusalIn, placeIn}
+use Rattle.scope.specs.File.Request.{Request}
+use Rattle.scope.specs.File.Text.{requestText}
+use Rattle.scope.specs.File.Reader.{read}
+use Rattle.scope.specs.Call.Tables.{Lent, requestOf, lentOf, padded}
+use Rattle.scope.specs.Call.Checked.{checked}
+use Rattle.scope.specs.Call.Calls.{written, unwritten, writtenIf, writing, writtenAnswer, textIn, outputAfter, reading, requestIn, formTableAfter, lineTableAfter, stepTableAfter, lentAfter}
 use Rattle.trip.specs.Trip.{readFor, leftFor}
 use Rattle.trip.specs.Statements.{trip-write, trip-read}
 use Rattle.writer.specs.declared.Writing.{Writing}

@@ -5,10 +5,10 @@ use native.Mathlib.Omega.{arith}
 use mathlib.Core.Path.{_≡_, refl, ap, sym, _∙_}
 use mathlib.Core.List.{List, [], _∷_, _++_, append-assoc, append-nil}
 use lib.ListN.{length, take, drop}
-use Rattle.scope.specs.Bytes.{joined}
-use Rattle.scope.specs.Line.{Line, lineText, manyText, countedText}
-use Rattle.scope.specs.Text.{versionLine, principalsLine, atomsLine, formulasLine, formLine, clausesLine, clauseLine, goalLine, stepsLine, stepLine, requestText}
-use Rattle.scope.specs.Tables.{Lent, Entry, unpack, formEntry, lineEntry, stepEntry, requestOf}
+use Rattle.scope.specs.File.Bytes.{joined}
+use Rattle.scope.specs.File.Line.{Line, lineText, manyText, countedText}
+use Rattle.scope.specs.File.Text.{versionLine, principalsLine, atomsLine, formulasLine, formLine, clausesLine, clauseLine, goalLine, stepsLine, stepLine, requestText}
+use Rattle.scope.specs.Call.Tables.{Lent, Entry, unpack, formEntry, lineEntry, stepEntry, requestOf}
 use Rattle.classes.specs.Rows.{unpack-turn, unpack-length}
 use Rattle.writer.specs.Puts.{Puts, puts-then, puts-same}
 

@@ -5,12 +5,12 @@ use mathlib.Core.Path.{_≡_, refl, ap, sym, _∙_}
 use mathlib.Core.List.{List, []}
 use borrow.Author.Tests.{le-leb, lt-leb}
 use lib.ListN.{length, replicate}
-use Rattle.scope.specs.Tests.{never}
-use Rattle.scope.specs.Answer.{Answer, answer, refusalIn, placeIn}
-use Rattle.scope.specs.Text.{requestText}
-use Rattle.scope.specs.Tables.{Lent, requestOf, padded}
-use Rattle.scope.specs.Checked.{checked}
-use Rattle.scope.specs.Calls.{Written, written, unwritten, writtenIf, writing, writtenAnswer, textIn, outputAfter}
+use Rattle.scope.specs.Tools.Tests.{never}
+use Rattle.scope.specs.Call.Answer.{Answer, answer, refusalIn, placeIn}
+use Rattle.scope.specs.File.Text.{requestText}
+use Rattle.scope.specs.Call.Tables.{Lent, requestOf, padded}
+use Rattle.scope.specs.Call.Checked.{checked}
+use Rattle.scope.specs.Call.Calls.{Written, written, unwritten, writtenIf, writing, writtenAnswer, textIn, outputAfter}
 use Rattle.counts.specs.declared.Refusal.{Refusal}
 use Rattle.tables.specs.declared.Checked.{Checked}
 use Rattle.tables.specs.declared.Checked.the-variants.{Fine, Refused}

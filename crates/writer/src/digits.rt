@@ -1,7 +1,7 @@
 // A number straight into the bytes of the output, from its first digit on.
 ghost use mathlib.Core.List.{[], _∷_};
 ghost use Prim.Native.Nat.{_<_};
-ghost use Rattle.scope.specs.Number.{numeral};
+ghost use Rattle.scope.specs.File.Number.{numeral};
 ghost use Rattle.writer.specs.Puts.{Puts};
 ghost use Rattle.writer.specs.Lines.{digits1, digits2, digits3, digits4, digits5};
 

@@ -4,12 +4,12 @@ use sections::put_request;
 use tables::Checked;
 
 mod digits;
-mod lines;
+mod put_lines;
 mod sections;
 
 ghost use mathlib.Core.Path.{_≡_};
 ghost use lib.ListN.{length, replicate};
-ghost use Rattle.scope.specs.Calls.{writing, outputAfter};
+ghost use Rattle.scope.specs.Call.Calls.{writing, outputAfter};
 ghost use Rattle.tables.specs.Met.{lentWith};
 ghost use Rattle.writer.specs.Writing.{writingOf, refusedAs};
 

@@ -1,12 +1,12 @@
 // The sections of a request's text, each put behind the one before it.
-use crate::lines::put_count;
-use crate::lines::put_form;
-use crate::lines::put_step;
+use crate::put_lines::put_count;
+use crate::put_lines::put_form;
+use crate::put_lines::put_step;
 use counts::Counts;
 ghost use Prim.Native.Nat.{_<_, _+_, _*_};
-ghost use Rattle.scope.specs.Line.{lineText, manyText};
-ghost use Rattle.scope.specs.Text.{formLine, clauseLine, stepLine, requestText};
-ghost use Rattle.scope.specs.Tables.{unpack, formEntry, lineEntry, stepEntry, requestOf};
+ghost use Rattle.scope.specs.File.Line.{lineText, manyText};
+ghost use Rattle.scope.specs.File.Text.{formLine, clauseLine, stepLine, requestText};
+ghost use Rattle.scope.specs.Call.Tables.{unpack, formEntry, lineEntry, stepEntry, requestOf};
 ghost use Rattle.tables.specs.Met.{lentWith};
 ghost use Rattle.writer.specs.Puts.{Puts};
 ghost use Rattle.writer.specs.Sections.{headText, formulasText, policyText, proofText};

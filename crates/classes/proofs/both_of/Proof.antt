@@ -1,5 +1,5 @@
 -- `classes::both_of` meets its contract: each arm of the test is a case of the definition.
-use Rattle.scope.specs.Form.{both}
+use Rattle.scope.specs.Logic.Form.{both}
 use Rattle.classes.proofs.both_of.Statement.{statement}
 use Rattle.classes.proofs.both_of.Tie as tie
 

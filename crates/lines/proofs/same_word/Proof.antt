@@ -3,7 +3,7 @@
 use Prim.Native.Nat.{_-_, _≤_}
 use mathlib.Core.Path.{_≡_, refl, sym, _∙_}
 use lib.ListN.{length, drop}
-use Rattle.scope.specs.Kinds.{same}
+use Rattle.scope.specs.File.Kinds.{same}
 use Rattle.lines.specs.Items.{same-lengths, same-goes, same-stops, same-ends}
 use native.Mathlib.Omega.{arith}
 use Rattle.lines.proofs.same_word.Statement.{statement}

@@ -1,8 +1,8 @@
 -- `reader::has_room` meets its contract: each table is asked for the room of its largest count.
 use mathlib.Core.Path.{refl}
 use borrow.Author.Tests.{le-leb, lt-leb}
-use Rattle.scope.specs.Form.{both}
-use Rattle.scope.specs.Tables.{hasRoom}
+use Rattle.scope.specs.Logic.Form.{both}
+use Rattle.scope.specs.Call.Tables.{hasRoom}
 use Rattle.reader.proofs.has_room.Statement.{statement}
 use Rattle.reader.proofs.has_room.Tie as tie
 

@@ -2,7 +2,7 @@
 use Prim.Native.Nat.{_+_, _≤_}
 use mathlib.Core.Path.{refl, ap, sym, subst, _∙_}
 use lib.ListN.{length}
-use Rattle.scope.specs.Reader.{readRequest}
+use Rattle.scope.specs.File.Reader.{readRequest}
 use Rattle.reader.specs.Answers.{refusalIs, formulaCount, headRefused, policyRefused, stepsRefused}
 use Rattle.reader.specs.Outcomes.{Formulas-kept, Policy-kept, Steps-kept, formulas-end, formulas-place, policy-end, policy-place, steps-end, bytes-after, all-read, refused-all}
 use borrow.Author.Needs.{needs}

@@ -3,9 +3,9 @@ use mathlib.Core.Path.{_≡_, ap, sym, _∙_}
 use mathlib.Core.Bool.{Bool, true}
 use lib.ListN.{length, replicate}
 use borrow.Author.Tests.{not-true, not-false}
-use Rattle.scope.specs.Reader.{Outcome, refused, readRequest}
-use Rattle.scope.specs.Tables.{table, formEntry, lineEntry, stepEntry, hasRoom}
-use Rattle.scope.specs.Calls.{reading}
+use Rattle.scope.specs.File.Reader.{Outcome, refused, readRequest}
+use Rattle.scope.specs.Call.Tables.{table, formEntry, lineEntry, stepEntry, hasRoom}
+use Rattle.scope.specs.Call.Calls.{reading}
 use Rattle.reader.specs.Answers.{refusalIs, readingOf}
 use Rattle.reader.specs.Outcomes.{refused-answer, refused-outcome, read-outcome, no-room, too-long, in-order, Cleared, tables-zero, forms-stored, lines-stored, steps-stored, room-is}
 use borrow.Author.Needs.{needs}

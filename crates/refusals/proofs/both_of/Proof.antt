@@ -1,6 +1,6 @@
 -- `refusals::both_of` meets its contract, case by case.
 use mathlib.Core.Path.{ap, sym}
-use Rattle.scope.specs.Form.{both}
+use Rattle.scope.specs.Logic.Form.{both}
 use Rattle.refusals.proofs.both_of.Statement.{statement}
 use Rattle.refusals.proofs.both_of.Tie as tie
 

@@ -1,8 +1,8 @@
 -- `refusals::form_refusal` meets its contract: for each kind the demands that its operands make, in their order.
 use mathlib.Core.Path.{ap, sym, _∙_}
 use mathlib.Core.Bool.{true}
-use Rattle.scope.specs.Kinds.{formKinds}
-use Rattle.scope.specs.Refusals.{rowRefusal}
+use Rattle.scope.specs.File.Kinds.{formKinds}
+use Rattle.scope.specs.File.Refusals.{rowRefusal}
 use Rattle.refusals.specs.Rows.{row, demands, form-0, form-1, form-2, form-3, form-4, form-5, form-6, form-7, form-other}
 use borrow.Author.Needs.{needs}
 use Rattle.refusals.proofs.form_refusal.Statement.{statement}

@@ -1,5 +1,5 @@
 -- `refusals::refusal_of` meets its contract: the three demands in their order.
-use Rattle.scope.specs.Refusals.{demand}
+use Rattle.scope.specs.File.Refusals.{demand}
 use borrow.Author.Tests.{not-true, not-false}
 use Rattle.refusals.proofs.refusal_of.Statement.{statement}
 use Rattle.refusals.proofs.refusal_of.Tie as tie

@@ -1,7 +1,7 @@
 -- `refusals::step_refusal` meets its contract: `use` and `to` carry a number up to 65,535, the other kinds none.
 use mathlib.Core.Path.{ap, sym, _∙_}
 use mathlib.Core.Bool.{true}
-use Rattle.scope.specs.Refusals.{stepRefusal}
+use Rattle.scope.specs.File.Refusals.{stepRefusal}
 use Rattle.refusals.specs.Rows.{row, demands, step-7, step-10, step-over, step-plain}
 use borrow.Author.Needs.{needs}
 use Rattle.refusals.proofs.step_refusal.Statement.{statement}

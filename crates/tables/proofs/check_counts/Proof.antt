@@ -2,8 +2,8 @@
 use borrow.Author.Needs.{needs}
 use mathlib.Core.Path.{_≡_, _∙_, sym}
 use mathlib.Core.List.{[], _∷_}
-use Rattle.scope.specs.Answer.{answer}
-use Rattle.scope.specs.Refusals.{principalsRefusal, atomsRefusal, formulasRefusal}
+use Rattle.scope.specs.Call.Answer.{answer}
+use Rattle.scope.specs.File.Refusals.{principalsRefusal, atomsRefusal, formulasRefusal}
 use Rattle.tables.specs.Met.{checkedOf}
 use Rattle.tables.specs.MetLaws.{met-one, one-stop, one-go}
 use Rattle.tables.specs.Answers.{countAnswers}

@@ -1,7 +1,7 @@
 -- `tables::check_forms` meets its contract: in turn i the answers about the first i formulas are fine, and answer i is that about row i.
 use borrow.Author.Needs.{needs}
 use Prim.Native.Nat.{_-_}
-use Rattle.scope.specs.Tables.{unpack, formEntry}
+use Rattle.scope.specs.Call.Tables.{unpack, formEntry}
 use Rattle.tables.specs.MetLaws.{Passed, passed-none, passed-all, Turn, turn-of, turn-stop, turn-go}
 use Rattle.tables.specs.Answers.{formAnswers}
 use Rattle.tables.specs.Sections.{forms-length, form-at}

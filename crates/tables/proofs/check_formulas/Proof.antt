@@ -1,7 +1,7 @@
 -- `tables::check_formulas` meets its contract: the counts come first, and where they are fine the formulas decide.
 use borrow.Author.Needs.{needs}
 use mathlib.Core.Path.{_∙_}
-use Rattle.scope.specs.Tables.{unpack, formEntry}
+use Rattle.scope.specs.Call.Tables.{unpack, formEntry}
 use Rattle.tables.specs.MetLaws.{met-stop, met-go}
 use Rattle.tables.specs.Answers.{countAnswers, formAnswers}
 use Rattle.tables.proofs.check_formulas.Statement.{statement}

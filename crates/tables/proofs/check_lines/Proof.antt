@@ -1,15 +1,15 @@
 -- `tables::check_lines` meets its contract: in turn i the answers about the first i policy lines are fine, and answer i is that about row i.
 use borrow.Author.Needs.{needs}
 use Prim.Native.Nat.{_-_}
-use Rattle.scope.specs.Tables.{unpack, lineEntry}
+use Rattle.scope.specs.Call.Tables.{unpack, lineEntry}
 use Rattle.tables.specs.MetLaws.{Passed, passed-none, passed-all, Turn, turn-of, turn-stop, turn-go}
-use Rattle.tables.specs.Answers.{lineAnswers}
+use Rattle.tables.specs.Answers.{policyAnswers}
 use Rattle.tables.specs.Sections.{lines-length, line-at}
 use Rattle.tables.proofs.check_lines.Statement.{statement}
 use Rattle.tables.proofs.check_lines.Tie as tie
 
 abbrev Inv-loop : tie.InvT-loop
-Inv-loop classes formulas count lines i₀ i = Passed count (lineAnswers classes formulas (unpack lineEntry count lines)) i
+Inv-loop classes formulas count lines i₀ i = Passed count (policyAnswers classes formulas (unpack lineEntry count lines)) i
 
 abbrev μ-loop : tie.MeasureT-loop
 μ-loop classes formulas count lines i₀ i = count - i
@@ -22,7 +22,7 @@ loop-holds c =
 turn :
     (c : tie.After-answer-at Inv-loop μ-loop)
     → let a = c .before .before .before .before .before .before .before .args in
-    Turn (a .count) (lineAnswers (a .classes .now) (a .formulas) (unpack lineEntry (a .count) (a .lines .now))) (c .before .before .before .before .loop .i) (c .answer-at .result)
+    Turn (a .count) (policyAnswers (a .classes .now) (a .formulas) (unpack lineEntry (a .count) (a .lines .now))) (c .before .before .before .before .loop .i) (c .answer-at .result)
 turn c =
     let a = c .before .before .before .before .before .before .before .args in
     let i = c .before .before .before .before .loop .i in

@@ -2,12 +2,12 @@
 use borrow.Author.Needs.{needs}
 use Prim.Native.Nat.{_+_}
 use mathlib.Core.Path.{_≡_, _∙_}
-use Rattle.scope.specs.Answer.{answer}
-use Rattle.scope.specs.Refusals.{clausesRefusal}
-use Rattle.scope.specs.Tables.{unpack, lineEntry}
+use Rattle.scope.specs.Call.Answer.{answer}
+use Rattle.scope.specs.File.Refusals.{clausesRefusal}
+use Rattle.scope.specs.Call.Tables.{unpack, lineEntry}
 use Rattle.tables.specs.Met.{checkedOf}
 use Rattle.tables.specs.MetLaws.{one-stop, one-go}
-use Rattle.tables.specs.Answers.{lineAnswers}
+use Rattle.tables.specs.Answers.{policyAnswers}
 use Rattle.tables.proofs.check_policy.Statement.{statement}
 use Rattle.tables.proofs.check_policy.Tie as tie
 
@@ -18,7 +18,7 @@ returns c =
     let count = answer (clausesRefusal (n .lines)) (5 + n .formulas) in
     let g = c .before .before .answer-at in
     let e : g .result ≡ checkedOf count = rw (c .before .before .before .count-refusal .ensures) at (g .ensures) in
-    let all = lineAnswers (a .classes .now) (n .formulas) (unpack lineEntry (n .lines) (a .lines .now)) in
+    let all = policyAnswers (a .classes .now) (n .formulas) (unpack lineEntry (n .lines) (a .lines .now)) in
     one-stop count all (g .result) (c .enum-told2 .given .0 .0) e (c .enum-told2 .given .1)
 
 returns-2 : tie.Need-returns-2
@@ -28,7 +28,7 @@ returns-2 c =
     let count = answer (clausesRefusal (n .lines)) (5 + n .formulas) in
     let g = c .before .before .before .answer-at in
     let e : g .result ≡ checkedOf count = rw (c .before .before .before .before .count-refusal .ensures) at (g .ensures) in
-    let all = lineAnswers (a .classes .now) (n .formulas) (unpack lineEntry (n .lines) (a .lines .now)) in
+    let all = policyAnswers (a .classes .now) (n .formulas) (unpack lineEntry (n .lines) (a .lines .now)) in
     c .check-lines .ensures ∙ one-go count all (g .result) e (c .before .enum-told .given .1)
 
 pub check-policy-spec : {M : Type 1} → statement M

@@ -4,9 +4,9 @@ use native.Mathlib.Omega.{arith}
 use Prim.Native.Nat.{_+_}
 use mathlib.Core.Path.{_≡_, _∙_}
 use mathlib.Core.List.{_∷_}
-use Rattle.scope.specs.Answer.{answer}
-use Rattle.scope.specs.Refusals.{stepsRefusal}
-use Rattle.scope.specs.Tables.{unpack, stepEntry}
+use Rattle.scope.specs.Call.Answer.{answer}
+use Rattle.scope.specs.File.Refusals.{stepsRefusal}
+use Rattle.scope.specs.Call.Tables.{unpack, stepEntry}
 use Rattle.classes.specs.Class.{goalIn}
 use Rattle.tables.specs.Met.{checkedOf}
 use Rattle.tables.specs.MetLaws.{one-stop, one-go}

@@ -4,7 +4,7 @@ use native.Mathlib.Omega.{arith}
 use Prim.Native.Nat.{suc, _-_, _+_}
 use mathlib.Core.Path.{_≡_}
 use Rattle.scope.specs.Limits.{stepAt}
-use Rattle.scope.specs.Tables.{unpack, stepEntry}
+use Rattle.scope.specs.Call.Tables.{unpack, stepEntry}
 use Rattle.tables.specs.MetLaws.{Passed, passed-none, passed-all, Turn, turn-of, turn-stop, turn-go}
 use Rattle.tables.specs.Answers.{stepAnswers}
 use Rattle.tables.specs.Sections.{steps-length, step-at}

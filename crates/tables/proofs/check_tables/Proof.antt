@@ -4,10 +4,10 @@ use borrow.Author.Needs.{needs}
 use Prim.Native.Nat.{ℕ}
 use mathlib.Core.Path.{_≡_, _∙_}
 use mathlib.Core.List.{List, _++_}
-use Rattle.scope.specs.Tables.{Lent}
-use Rattle.scope.specs.Checked.{checked}
+use Rattle.scope.specs.Call.Tables.{Lent}
+use Rattle.scope.specs.Call.Checked.{checked}
 use Rattle.classes.specs.Class.{classTable}
-use Rattle.tables.specs.Met.{checkedOf, met, lentWith}
+use Rattle.tables.specs.Met.{checkedOf, metIn, lentWith}
 use Rattle.tables.specs.MetLaws.{met-stop, met-go}
 use Rattle.tables.specs.Whole.{roomPart, linePart, stepPart, pastPart, room-met, room-stop, forms-stop, past-met, after-forms}
 use Rattle.tables.proofs.check_tables.Statement.{statement}
@@ -20,31 +20,31 @@ abbrev classes : tie.Start → List ℕ
 classes s = classTable (s .args .forms .now) (s .args .counts .formulas)
 
 -- What each check gave, and what is left to decide where it is fine.
-room-gave : (c : tie.After-answer-at) → c .answer-at .result ≡ met (roomPart (lent (c .before .before .before .before .before)))
+room-gave : (c : tie.After-answer-at) → c .answer-at .result ≡ metIn (roomPart (lent (c .before .before .before .before .before)))
 room-gave c = room-met (lent (c .before .before .before .before .before)) (c .answer-at .result) (rw (c .before .room-refusal .ensures) at (c .answer-at .ensures))
 
 forms-fine :
     (c : tie.After-enum-told3)
     → let s = c .before .before .before .before .before .before .before .before .before .before in
-    met (linePart (lent s) (classes s) ++ (stepPart (lent s) (classes s) ++ pastPart (lent s))) ≡ checkedOf (checked (lent s))
+    metIn (linePart (lent s) (classes s) ++ (stepPart (lent s) (classes s) ++ pastPart (lent s))) ≡ checkedOf (checked (lent s))
 forms-fine c =
     let room = c .before .before .before .before .before in
     let forms = c .before .before .check-formulas in
     after-forms (lent (c .before .before .before .before .before .before .before .before .before .before)) (room .answer-at .result) (room-gave room) (c .before .before .before .enum-told .given .1) (forms .result) (forms .ensures) (c .enum-told3 .given .1)
 
-policy-gave : (c : tie.After-check-policy) → c .check-policy .result ≡ met (linePart (lent (c .before .before .before .before .before .before .before .before .before .before .before .before .before)) (classes (c .before .before .before .before .before .before .before .before .before .before .before .before .before)))
+policy-gave : (c : tie.After-check-policy) → c .check-policy .result ≡ metIn (linePart (lent (c .before .before .before .before .before .before .before .before .before .before .before .before .before)) (classes (c .before .before .before .before .before .before .before .before .before .before .before .before .before)))
 policy-gave c = rw (c .before .before .classes-of .ensures) at (c .check-policy .ensures)
 
 policy-fine :
     (c : tie.After-enum-told5)
     → let s = c .before .before .before .before .before .before .before .before .before .before .before .before .before .before .before in
-    met (stepPart (lent s) (classes s) ++ pastPart (lent s)) ≡ checkedOf (checked (lent s))
+    metIn (stepPart (lent s) (classes s) ++ pastPart (lent s)) ≡ checkedOf (checked (lent s))
 policy-fine c =
     let s = c .before .before .before .before .before .before .before .before .before .before .before .before .before .before .before in
     let policy = c .before .before in
     met-go (linePart (lent s) (classes s)) (stepPart (lent s) (classes s) ++ pastPart (lent s)) (policy .check-policy .result) (policy-gave policy) (c .enum-told5 .given .1) ∙ forms-fine (c .before .before .before .before .before)
 
-proof-gave : (c : tie.After-check-proof) → c .check-proof .result ≡ met (stepPart (lent (c .before .before .before .before .before .before .before .before .before .before .before .before .before .before .before .before .before)) (classes (c .before .before .before .before .before .before .before .before .before .before .before .before .before .before .before .before .before)))
+proof-gave : (c : tie.After-check-proof) → c .check-proof .result ≡ metIn (stepPart (lent (c .before .before .before .before .before .before .before .before .before .before .before .before .before .before .before .before .before)) (classes (c .before .before .before .before .before .before .before .before .before .before .before .before .before .before .before .before .before)))
 proof-gave c = rw (c .before .before .before .before .before .before .classes-of .ensures) at (c .check-proof .ensures)
 
 returns : tie.Need-returns

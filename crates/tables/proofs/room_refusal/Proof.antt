@@ -1,7 +1,7 @@
 -- `tables::room_refusal` meets its contract: each table is asked in turn, and the first that is too short decides.
 use borrow.Author.Tests.{le-leb, lt-leb}
-use Rattle.scope.specs.Refusals.{demand}
-use Rattle.scope.specs.Tables.{hasRoom}
+use Rattle.scope.specs.File.Refusals.{demand}
+use Rattle.scope.specs.Call.Tables.{hasRoom}
 use Rattle.tables.proofs.room_refusal.Statement.{statement}
 use Rattle.tables.proofs.room_refusal.Tie as tie
 

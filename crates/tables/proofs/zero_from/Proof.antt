@@ -3,7 +3,7 @@ use borrow.Author.Needs.{needs}
 use Prim.Native.Nat.{_-_}
 use mathlib.Core.Path.{_≡_, sym, _∙_}
 use lib.ListN.{length, drop}
-use Rattle.scope.specs.Checked.{allZero}
+use Rattle.scope.specs.Call.Checked.{allZero}
 use Rattle.tables.specs.Sections.{zeros-more, zeros-stop, zeros-end}
 use Rattle.tables.proofs.zero_from.Statement.{statement}
 use Rattle.tables.proofs.zero_from.Tie as tie

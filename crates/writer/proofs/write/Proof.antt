@@ -6,8 +6,8 @@ use mathlib.Core.Path.{_≡_, ap, _∙_}
 use mathlib.Core.List.{List}
 use lib.ListN.{length, replicate}
 use lib.Seq.{sets}
-use Rattle.scope.specs.Text.{requestText}
-use Rattle.scope.specs.Tables.{requestOf, padded}
+use Rattle.scope.specs.File.Text.{requestText}
+use Rattle.scope.specs.Call.Tables.{requestOf, padded}
 use Rattle.tables.specs.Met.{lentWith}
 use Rattle.writer.specs.Puts.{puts-zeros}
 use Rattle.writer.specs.Writing.{ends-refused, ends-short, ends-written}

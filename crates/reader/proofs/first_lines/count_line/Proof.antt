@@ -1,5 +1,5 @@
 -- `reader::first_lines::count_line` meets its contract: no number is 2, a number outside the bounds 3.
-use Rattle.scope.specs.Refusals.{countRefusal}
+use Rattle.scope.specs.File.Refusals.{countRefusal}
 use Rattle.lines.specs.Parts.{valueOf}
 use Rattle.reader.specs.Lines.{number-lost, number-turned, number-taken, count-low, count-high, count-in}
 use borrow.Author.Needs.{needs}

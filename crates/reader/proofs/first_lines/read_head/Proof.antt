@@ -2,11 +2,11 @@
 use mathlib.Core.Path.{_≡_, ap, sym, _∙_}
 use lib.ListN.{length}
 use Rattle.scope.specs.Limits.{versionAt, principalsAt, atomsAt, formulasAt}
-use Rattle.scope.specs.Refusals.{versionRefusal, principalsRefusal, atomsRefusal, formulasRefusal}
+use Rattle.scope.specs.File.Refusals.{versionRefusal, principalsRefusal, atomsRefusal, formulasRefusal}
 use Rattle.reader.specs.Sections.{headPart}
 use Rattle.reader.specs.Answers.{refusalIs, numberRefusal}
-use Rattle.scope.specs.Bytes.{bytes}
-use Rattle.scope.specs.Number.{number}
+use Rattle.scope.specs.File.Bytes.{bytes}
+use Rattle.scope.specs.File.Number.{number}
 use Rattle.lines.specs.Parts.{valueOf}
 use Rattle.reader.specs.Lines.{number-ok, number-bad, count-most}
 use Rattle.reader.specs.Turns.{rest-short, head-1, head-2, head-3, head-4, head-5, head-refused, head-read}

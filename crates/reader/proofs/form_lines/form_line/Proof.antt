@@ -1,7 +1,7 @@
 -- `reader::form_lines::form_line` meets its contract: out of shape is 2, and a row in shape has its own refusal; one that passes is small.
 use mathlib.Core.Path.{sym, _∙_}
-use Rattle.scope.specs.Kinds.{formKinds}
-use Rattle.scope.specs.Refusals.{rowRefusal}
+use Rattle.scope.specs.File.Kinds.{formKinds}
+use Rattle.scope.specs.File.Refusals.{rowRefusal}
 use Rattle.reader.specs.Lines.{row-out, row-val, row-lost, row-turned, row-taken}
 use Rattle.refusals.specs.Rows.{Small, form-small}
 use borrow.Author.Needs.{needs}

@@ -3,8 +3,8 @@
 use Prim.Native.Nat.{_+_, _-_, _*_, _≤_, _<_}
 use mathlib.Core.Path.{ap, _∙_}
 use lib.ListN.{length, length-set}
-use Rattle.scope.specs.Reader.{formItem}
-use Rattle.scope.specs.Tables.{formEntry}
+use Rattle.scope.specs.File.Reader.{formItem}
+use Rattle.scope.specs.Call.Tables.{formEntry}
 use Rattle.lines.specs.Values.{Behind}
 use Rattle.reader.specs.Answers.{refusalIs, rowRefused}
 use Rattle.reader.specs.Turns.{Turns, turns-begin, turns-end, Line-asked, formAsked, form-stops, form-behind, form-turn}

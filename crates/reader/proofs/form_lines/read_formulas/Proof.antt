@@ -2,7 +2,7 @@
 use Prim.Native.Nat.{_≤_}
 use mathlib.Core.Path.{ap, sym, subst, _∙_}
 use lib.ListN.{length}
-use Rattle.scope.specs.Tables.{formEntry}
+use Rattle.scope.specs.Call.Tables.{formEntry}
 use Rattle.reader.specs.Sections.{formulasPart}
 use Rattle.reader.specs.Answers.{formulaCount, sectionRefused}
 use Rattle.reader.specs.Got.{Section-kept, formulas-refused}

@@ -1,6 +1,6 @@
 -- `reader::policy_lines::clause_line` meets its contract: the class is asked of a number that is a formula's.
 use mathlib.Core.Path.{ap, sym, _∙_}
-use Rattle.scope.specs.Number.{number}
+use Rattle.scope.specs.File.Number.{number}
 use Rattle.classes.specs.Class.{policyIn}
 use Rattle.reader.specs.Lines.{class-before, class-met, class-unmet}
 use borrow.Author.Needs.{needs}

@@ -1,8 +1,8 @@
 -- `reader::policy_lines::goal_line` meets its contract: the class is asked of a number that is a formula's.
 use mathlib.Core.Path.{_≡_, ap, sym, _∙_}
-use Rattle.scope.specs.Bytes.{bytes}
-use Rattle.scope.specs.Number.{number}
-use Rattle.scope.specs.Line.{judged}
+use Rattle.scope.specs.File.Bytes.{bytes}
+use Rattle.scope.specs.File.Number.{number}
+use Rattle.scope.specs.File.Line.{shapedAs}
 use Rattle.lines.specs.Parts.{valueOf}
 use Rattle.classes.specs.Class.{goalIn}
 use Rattle.reader.specs.Sections.{belowRefusal}
@@ -28,11 +28,11 @@ enum-told : tie.Need-enum-told
 enum-told c = search needs
 
 found : (c : tie.After-formula-line) → c .formula-line .result ≡ numberLineOf
-    (judged (belowRefusal (c .before .before .before .before .before .args .formulas))
+    (shapedAs (belowRefusal (c .before .before .before .before .before .args .formulas))
     (number (valueOf (bytes "goal=") (c .before .before .before .before .before .args .text .now))))
 found c =
     c .formula-line .ensures ∙ ap
-    (λ t. numberLineOf (judged (belowRefusal (c .before .before .before .before .before .args .formulas)) (number t)))
+    (λ t. numberLineOf (shapedAs (belowRefusal (c .before .before .before .before .before .args .formulas)) (number t)))
     (c .before .value-of .ensures)
 
 returns : tie.Need-returns

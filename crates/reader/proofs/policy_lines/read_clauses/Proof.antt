@@ -3,7 +3,7 @@
 use Prim.Native.Nat.{_+_, _-_, _≤_, _<_}
 use mathlib.Core.Path.{ap, _∙_}
 use lib.ListN.{length}
-use Rattle.scope.specs.Tables.{lineEntry}
+use Rattle.scope.specs.Call.Tables.{lineEntry}
 use Rattle.lines.specs.Values.{Behind}
 use Rattle.reader.specs.Sections.{classedItem}
 use Rattle.reader.specs.Answers.{refusalIs, numberRefusal}

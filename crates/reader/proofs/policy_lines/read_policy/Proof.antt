@@ -2,9 +2,9 @@
 use Prim.Native.Nat.{_+_}
 use mathlib.Core.Path.{ap, sym, _∙_}
 use lib.ListN.{length}
-use Rattle.scope.specs.Bytes.{bytes}
-use Rattle.scope.specs.Number.{number}
-use Rattle.scope.specs.Tables.{unpack, formEntry, lineEntry}
+use Rattle.scope.specs.File.Bytes.{bytes}
+use Rattle.scope.specs.File.Number.{number}
+use Rattle.scope.specs.Call.Tables.{unpack, formEntry, lineEntry}
 use Rattle.lines.specs.Parts.{valueOf}
 use Rattle.reader.specs.Sections.{policyPart}
 use Rattle.reader.specs.Answers.{refusalIs, numberRefusal, sectionRefused}

@@ -3,8 +3,8 @@
 use Prim.Native.Nat.{_+_, _-_, _*_, _≤_, _<_}
 use mathlib.Core.Path.{ap, _∙_}
 use lib.ListN.{length, length-set}
-use Rattle.scope.specs.Reader.{stepItem}
-use Rattle.scope.specs.Tables.{stepEntry}
+use Rattle.scope.specs.File.Reader.{stepItem}
+use Rattle.scope.specs.Call.Tables.{stepEntry}
 use Rattle.lines.specs.Values.{Behind}
 use Rattle.reader.specs.Answers.{refusalIs, stepRefused}
 use Rattle.reader.specs.Turns.{Turns, turns-begin, turns-end, Line-asked, stepAsked, step-stops, step-behind, step-turn}

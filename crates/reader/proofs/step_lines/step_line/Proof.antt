@@ -1,7 +1,7 @@
 -- `reader::step_lines::step_line` meets its contract: out of shape is 2, and a row in shape has its own refusal; one that passes is small, and a step.
 use mathlib.Core.Path.{ap, sym, _∙_}
-use Rattle.scope.specs.Kinds.{stepKinds}
-use Rattle.scope.specs.Refusals.{stepRefusal}
+use Rattle.scope.specs.File.Kinds.{stepKinds}
+use Rattle.scope.specs.File.Refusals.{stepRefusal}
 use Rattle.reader.specs.Lines.{step-out, step-val, row-lost, row-turned, row-taken}
 use Rattle.refusals.specs.Rows.{step-small}
 use Rattle.reader.specs.declared.StepLine.the-variants as StepLine

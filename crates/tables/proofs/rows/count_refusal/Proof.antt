@@ -1,6 +1,6 @@
 -- `tables::rows::count_refusal` meets its contract: below the least or above the most is 3.
 use borrow.Author.Tests.{le-leb, lt-leb}
-use Rattle.scope.specs.Refusals.{countRefusal}
+use Rattle.scope.specs.File.Refusals.{countRefusal}
 use Rattle.tables.proofs.rows.count_refusal.Statement.{statement}
 use Rattle.tables.proofs.rows.count_refusal.Tie as tie
 

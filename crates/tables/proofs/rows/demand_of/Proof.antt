@@ -1,5 +1,5 @@
 -- `tables::rows::demand_of` meets its contract: each arm of the test is a case of the definition.
-use Rattle.scope.specs.Refusals.{demand}
+use Rattle.scope.specs.File.Refusals.{demand}
 use Rattle.tables.proofs.rows.demand_of.Statement.{statement}
 use Rattle.tables.proofs.rows.demand_of.Tie as tie
 

@@ -1,7 +1,7 @@
 -- `writer::digits::put_digit` meets its contract: the byte of a digit is 48 more.
 use borrow.Author.Needs.{needs}
 use Rattle.writer.specs.Lines.{digits1}
-use Rattle.scope.specs.Number.{digit}
+use Rattle.scope.specs.File.Number.{digit}
 use Rattle.writer.proofs.digits.put_digit.Statement.{statement}
 use Rattle.writer.proofs.digits.put_digit.Tie as tie
 

@@ -1,8 +1,8 @@
 -- `writer::sections::put_forms` meets its contract: in turn i the lines of the first i are put, and line i stands behind them.
 use borrow.Author.Needs.{needs}
 use Prim.Native.Nat.{_-_}
-use Rattle.scope.specs.Text.{formLine}
-use Rattle.scope.specs.Tables.{formEntry}
+use Rattle.scope.specs.File.Text.{formLine}
+use Rattle.scope.specs.Call.Tables.{formEntry}
 use Rattle.classes.specs.Rows.{form-row}
 use Rattle.writer.specs.Sections.{LinesPut, lines-none, lines-more, lines-all}
 use Rattle.writer.proofs.sections.put_forms.Statement.{statement}

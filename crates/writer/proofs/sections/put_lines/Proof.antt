@@ -2,8 +2,8 @@
 use borrow.Author.Needs.{needs}
 use native.Mathlib.Omega.{arith}
 use Prim.Native.Nat.{_-_}
-use Rattle.scope.specs.Text.{clauseLine}
-use Rattle.scope.specs.Tables.{lineEntry}
+use Rattle.scope.specs.File.Text.{clauseLine}
+use Rattle.scope.specs.Call.Tables.{lineEntry}
 use Rattle.classes.specs.Rows.{number-at}
 use Rattle.writer.specs.Sections.{LinesPut, lines-none, lines-more, lines-all}
 use Rattle.writer.proofs.sections.put_lines.Statement.{statement}

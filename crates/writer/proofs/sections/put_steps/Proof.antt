@@ -1,8 +1,8 @@
 -- `writer::sections::put_steps` meets its contract: in turn i the lines of the first i are put, and line i stands behind them.
 use borrow.Author.Needs.{needs}
 use Prim.Native.Nat.{_-_}
-use Rattle.scope.specs.Text.{stepLine}
-use Rattle.scope.specs.Tables.{stepEntry}
+use Rattle.scope.specs.File.Text.{stepLine}
+use Rattle.scope.specs.Call.Tables.{stepEntry}
 use Rattle.tables.specs.Sections.{step-row}
 use Rattle.writer.specs.Sections.{LinesPut, lines-none, lines-more, lines-all}
 use Rattle.writer.proofs.sections.put_steps.Statement.{statement}

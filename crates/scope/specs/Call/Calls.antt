@@ -1,0 +1,77 @@
+-- What a call of the reader and a call of the writer come to: the answer, and what stands in the lent tables and the output after it.
+use Prim.Native.Nat.{ℕ, zero, suc}
+use mathlib.Core.List.{List, []}
+use mathlib.Core.Bool.{cond}
+use lib.Dec.{leb}
+use lib.ListN.{length}
+use Rattle.scope.specs.File.Request.{Request}
+use Rattle.scope.specs.Call.Answer.{Answer, answer}
+use Rattle.scope.specs.Limits.{mostBytes}
+use Rattle.scope.specs.File.Text.{requestText}
+use Rattle.scope.specs.File.Reader.{Outcome, read, refused, readRequest}
+use Rattle.scope.specs.Call.Tables.{Lent, formEntry, lineEntry, stepEntry, padded, table, hasRoom, requestOf, lentOf}
+use Rattle.scope.specs.Call.Checked.{checked}
+
+-- 'Order: 13, 1, then lines in order.' The tables are lent with these lengths.
+unfoldable pub reading : ℕ → ℕ → ℕ → List ℕ → Outcome
+unfolding hasRoom readRequest
+reading forms lines steps s =
+    cond (hasRoom forms lines steps) (cond (leb (length s) mostBytes) (readRequest s) (refused 1 0)) (refused 13 0)
+
+unfoldable pub outcomeAnswer : Outcome → Answer
+outcomeAnswer (read q) = answer 0 0
+outcomeAnswer (refused k place) = answer k place
+
+-- 'The counts and the goal come in the answer; after a refusal they are 0.'
+abbrev pub noRequest : Request
+noRequest = record { principals = 0; atoms = 0; forms = []; lines = []; goal = 0; steps = [] }
+
+unfoldable pub requestIn : Outcome → Request
+requestIn (read q) = q
+requestIn (refused k place) = noRequest
+
+-- The tables as they stand after reading, over the whole lent length: all zero after a refusal.
+unfoldable pub formTableAfter : ℕ → Outcome → List ℕ
+unfolding table requestIn
+formTableAfter len o = table formEntry len (requestIn o .forms)
+
+unfoldable pub lineTableAfter : ℕ → Outcome → List ℕ
+unfolding table requestIn
+lineTableAfter len o = table lineEntry len (requestIn o .lines)
+
+unfoldable pub stepTableAfter : ℕ → Outcome → List ℕ
+unfolding table requestIn
+stepTableAfter len o = table stepEntry len (requestIn o .steps)
+
+-- Counts, goal and tables together.
+unfoldable pub lentAfter : ℕ → ℕ → ℕ → Outcome → Lent
+unfolding lentOf requestIn
+lentAfter forms lines steps o = lentOf forms lines steps (requestIn o)
+
+pub data Written : Type 0 where
+  written : List ℕ → Written
+  unwritten : ℕ → ℕ → Written
+
+-- 'then 14': the output is shorter than the text.
+unfoldable pub writtenIf : Answer → List ℕ → ℕ → Written
+writtenIf (answer zero place) s len = cond (leb (length s) len) (written s) (unwritten 14 0)
+writtenIf (answer (suc k) place) s len = unwritten (suc k) place
+
+-- The output has length len.
+unfoldable pub writing : Lent → ℕ → Written
+unfolding checked requestOf requestText writtenIf
+writing t len = writtenIf (checked t) (requestText (requestOf t)) len
+
+unfoldable pub writtenAnswer : Written → Answer
+writtenAnswer (written s) = answer 0 0
+writtenAnswer (unwritten k place) = answer k place
+
+-- 'Its answer gives the text's length, 0 if refused.'
+unfoldable pub textIn : Written → List ℕ
+textIn (written s) = s
+textIn (unwritten k place) = []
+
+-- 'Written bytes are followed by zeros.'
+unfoldable pub outputAfter : ℕ → Written → List ℕ
+unfolding padded textIn
+outputAfter len w = padded len (textIn w)

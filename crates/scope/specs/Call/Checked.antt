@@ -1,0 +1,69 @@
+-- What writer and judge ask of lent tables before anything else: 'It gives 13; then 3, 4 or 5 at the line where the text would have it;
+-- then 3 at place 0 for a nonzero entry past the counts.'
+use Prim.Native.Nat.{ℕ, zero, suc, _*_}
+use mathlib.Core.List.{List, [], _∷_, _++_}
+use mathlib.Core.Bool.{Bool, true}
+use lib.Dec.{eqb}
+use lib.ListN.{length, drop}
+use Rattle.scope.specs.Logic.Form.{both}
+use Rattle.scope.specs.File.Request.{Request}
+use Rattle.scope.specs.Call.Answer.{Answer, answer}
+use Rattle.scope.specs.File.Bytes.{joined}
+use Rattle.scope.specs.Limits.{principalsAt, atomsAt, formulasAt, formAt, clausesAt, clauseAt, goalAt, stepsAt, stepAt}
+use Rattle.scope.specs.File.Refusals.{demand, countRefusal, principalsRefusal, atomsRefusal, formulasRefusal, formRefusal, clausesRefusal, clauseRefusal, goalRefusal, stepsRefusal, stepRefusal}
+use Rattle.scope.specs.Call.Tables.{Lent, hasRoom, requestOf}
+
+-- 'The first met is the answer, with no other given.' An answer numbered 0 is no refusal.
+unfoldable pub firstMet : List Answer → Answer
+firstMet [] = answer 0 0
+firstMet (answer zero place ∷ more) = firstMet more
+firstMet (answer (suc k) place ∷ more) = answer (suc k) place
+
+-- The answer about each of several things, in the light of those before it.
+unfoldable pub eachOf : {A : Type 0} → (List A → A → Answer) → List A → List A → List Answer
+eachOf about before [] = []
+eachOf about before (x ∷ xs) = about before x ∷ eachOf about (before ++ (x ∷ [])) xs
+
+-- The lines that the text of a request would have, after the first.
+unfoldable pub lineAnswers : Request → List Answer
+unfolding joined eachOf countRefusal formRefusal clauseRefusal goalRefusal stepRefusal
+lineAnswers q =
+    joined
+    ((answer (principalsRefusal (q .principals)) principalsAt ∷
+    answer (atomsRefusal (q .atoms)) atomsAt ∷
+    answer (formulasRefusal (length (q .forms))) formulasAt ∷
+    []) ∷
+    eachOf (λ before r. answer (formRefusal (q .principals) (q .atoms) before r) (formAt (length before))) [] (q .forms) ∷
+    (answer (clausesRefusal (length (q .lines))) (clausesAt (length (q .forms))) ∷ []) ∷
+    eachOf (λ before f. answer (clauseRefusal (q .forms) f) (clauseAt (length (q .forms)) (length before))) [] (q .lines) ∷
+    (answer (goalRefusal (q .forms) (q .goal)) (goalAt (length (q .forms)) (length (q .lines))) ∷
+    answer (stepsRefusal (length (q .steps))) (stepsAt (length (q .forms)) (length (q .lines))) ∷
+    []) ∷
+    eachOf
+    (λ before r. answer (stepRefusal r) (stepAt (length (q .forms)) (length (q .lines)) (suc (length before))))
+    []
+    (q .steps) ∷
+    [])
+
+unfoldable pub allZero : List ℕ → Bool
+unfolding both
+allZero [] = true
+allZero (n ∷ ns) = both (eqb n 0) (allZero ns)
+
+-- No nonzero entry past the counts, anywhere in the lent length.
+unfoldable pub pastZero : Lent → Bool
+unfolding both allZero
+pastZero t =
+    both
+    (allZero (drop (3 * t .formulas) (t .formTable)))
+    (both (allZero (drop (t .lines) (t .lineTable))) (allZero (drop (2 * t .steps) (t .stepTable))))
+
+unfoldable pub checked : Lent → Answer
+unfolding firstMet joined demand hasRoom requestOf lineAnswers pastZero
+checked t =
+    firstMet
+    (joined
+    ((answer (demand (hasRoom (length (t .formTable)) (length (t .lineTable)) (length (t .stepTable))) 13 0) 0 ∷ []) ∷
+    lineAnswers (requestOf t) ∷
+    (answer (demand (pastZero t) 3 0) 0 ∷ []) ∷
+    []))

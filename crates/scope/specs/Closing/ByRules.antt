@@ -1,0 +1,119 @@
+-- `Holds` and the nine rules: what it says follows by them, and it is closed under each of them.
+use Prim.Native.Nat.{ℕ}
+use mathlib.Core.List.{List}
+use Rattle.scope.specs.Logic.Facts as F
+use Rattle.scope.specs.Logic.Facts.{Fact, le, by, sf, Rules, Closed, given, Among}
+use Rattle.scope.specs.Logic.Held.{lesOf, linksOf, pairsAt}
+use Rattle.scope.specs.Closing.Paths.{Path, Way, stay, go, along, path-joined, way-joined, one-edge}
+use Rattle.scope.specs.Closing.Computed.{les-given, given-le, Link, link-le, link-by, links-given, le-links, by-links, Pair, pair, pairs-given, given-pair}
+use Rattle.scope.specs.Closing.Computed.{reach, below, Holds, same, up, self, speaks, sees}
+
+-- What `holds` says follows by the rules.
+module _ (n k : ℕ) (fs : List Fact) where
+  abbrev Follows : Fact → Type 0
+  Follows f = Closed n k (Among fs) f
+
+  -- Along links an `sf` is carried on (rules 4 and 5),
+  carries : (u v : ℕ) → Way (linksOf fs) u v → (a b : ℕ) → Follows (sf u a b) → Follows (sf v a b)
+  carries u v stay = λ a b p. p
+  carries u v (go w) =
+      along (λ x y. (a b : ℕ) → Follows (sf x a b) → Follows (sf y a b)) (λ x y z r s a b p. s a b (r a b p))
+      (linksOf fs) (λ x y o a b p. by-link (links-given fs o) p) u v w
+    where
+      by-link : {x y a b : ℕ} → Link fs x y → Follows (sf x a b) → Follows (sf y a b)
+      by-link (link-le i) p = F.rule5 (given i) p
+      by-link (link-by i) p = F.rule4 (given i) p
+
+  -- and what stands at their end is seen from their start (rules 6 and 9).
+  seen : (u v : ℕ) → Way (linksOf fs) u v → (a w : ℕ) → Follows (by a v w) → Follows (by a u w)
+  seen u v stay = λ a w p. p
+  seen u v (go l) =
+      along (λ x y. (a w : ℕ) → Follows (by a y w) → Follows (by a x w)) (λ x y z r s a w p. r a w (s a w p))
+      (linksOf fs) (λ x y o a w p. by-link (links-given fs o) p) u v l
+    where
+      by-link : {x y a w : ℕ} → Link fs x y → Follows (by a y w) → Follows (by a x w)
+      by-link (link-le i) p = F.rule6 (given i) p
+      by-link (link-by i) p = F.rule9 (given i) p
+
+  pairs-follow : (u a b : ℕ) → Path (pairsAt (linksOf fs) u fs) a b → Follows (sf u a b)
+  pairs-follow u a b p =
+      along (λ a b. Follows (sf u a b)) (λ a b c r s. F.rule3 r s) (pairsAt (linksOf fs) u fs)
+      (λ a b o. by-pair (pairs-given (linksOf fs) u fs o)) a b p
+    where
+      by-pair : {a b : ℕ} → Pair (linksOf fs) u a b fs → Follows (sf u a b)
+      by-pair (pair {x} i w) = carries x u w _ _ (given i)
+
+  pub follows : {f : Fact} → Holds n k fs f → Closed n k (Among fs) f
+  follows (same l) = F.rule7 l
+  follows (up {u} {v} p) =
+      along (λ u v. Follows (le u v)) (λ u v w r s. F.rule8 r s) (lesOf fs) (λ u v o. given (les-given fs o)) u v p
+  follows (self {u} {a} l (below {x} i w)) = carries x u w a a (F.rule1 i l)
+  follows (speaks {u} {a} {b} p) = pairs-follow u a b p
+  follows (sees {a} {u} {w} (reach {x} i s stay)) = seen u x s a w (given i)
+  follows (sees {a} {u} {w} (reach {b} {x} i s (go p))) = seen u x s a w (F.rule2 (given i) (pairs-follow x a b p))
+
+-- What follows by the rules `holds` says: its facts hold the given ones and are closed under each rule.
+module _ (n k : ℕ) (fs : List Fact) where
+  abbrev H : Fact → Type 0
+  H f = Holds n k fs f
+
+  pub gives : (f : Fact) → Among fs f → Holds n k fs f
+  gives (le u v) i = up (one-edge (given-le i))
+  gives (by a u v) i = sees (reach i stay stay)
+  gives (sf u a b) i = speaks (one-edge (given-pair (linksOf fs) u i stay))
+
+  -- Facts u ≤ v and u S_A v are ways over links,
+  le-way : {u v : ℕ} → H (le u v) → Way (linksOf fs) u v
+  le-way (same l) = stay
+  le-way (up {u} {v} p) =
+      go (along (Path (linksOf fs)) (path-joined (linksOf fs)) (lesOf fs) (λ u v o. one-edge (le-links (les-given fs o))) u v p)
+
+  by-way : {a u v : ℕ} → H (by a u v) → Way (linksOf fs) u v
+  by-way (sees (reach i s t)) = way-joined s (go (one-edge (by-links i)))
+
+  -- along which pairs are carried.
+  pairs-carried : {u v a b : ℕ} → Way (linksOf fs) u v → Path (pairsAt (linksOf fs) u fs) a b → Path (pairsAt (linksOf fs) v fs) a b
+  pairs-carried {u} {v} {a} {b} w p =
+      along (Path (pairsAt (linksOf fs) v fs)) (path-joined (pairsAt (linksOf fs) v fs)) (pairsAt (linksOf fs) u fs)
+      (λ a b o. again (pairs-given (linksOf fs) u fs o)) a b p
+    where
+      again : {a b : ℕ} → Pair (linksOf fs) u a b fs → Path (pairsAt (linksOf fs) v fs) a b
+      again (pair i s) = one-edge (given-pair (linksOf fs) v i (way-joined s w))
+
+  carried : {u v a b : ℕ} → Way (linksOf fs) u v → H (sf u a b) → H (sf v a b)
+  carried w (self l (below i s)) = self l (below i (way-joined s w))
+  carried w (speaks p) = speaks (pairs-carried w p)
+
+  pairs-way : {u v a b : ℕ} → Way (linksOf fs) u v → H (sf u a b) → Way (pairsAt (linksOf fs) v fs) a b
+  pairs-way w (self l s) = stay
+  pairs-way w (speaks p) = go (pairs-carried w p)
+
+  sf-sf : {u a b c : ℕ} → H (sf u a b) → H (sf u b c) → H (sf u a c)
+  sf-sf (self l s) q = q
+  sf-sf (speaks p) (self l s) = speaks p
+  sf-sf (speaks {u} {a} {b} p) (speaks {b = c} q) = speaks (path-joined (pairsAt (linksOf fs) u fs) a b c p q)
+
+  le-le : {u v w : ℕ} → H (le u v) → H (le v w) → H (le u w)
+  le-le (same l) q = q
+  le-le (up p) (same l) = up p
+  le-le (up {u} {v} p) (up {v = w} q) = up (path-joined (lesOf fs) u v w p q)
+
+  by-sf : {u v a b : ℕ} → H (by b u v) → H (sf u a b) → H (by a u v)
+  by-sf (sees (reach i s t)) q = sees (reach i s (way-joined (pairs-way s q) t))
+
+  way-by : {u v w a : ℕ} → Way (linksOf fs) u v → H (by a v w) → H (by a u w)
+  way-by l (sees (reach i s t)) = sees (reach i (way-joined l s) t)
+
+  pub obeys : Rules n k (Holds n k fs)
+  obeys =
+      record {
+        rule1 = λ u a i l. self l (below i stay);
+        rule2 = λ u v a b p q. by-sf p q;
+        rule3 = λ u a b c p q. sf-sf p q;
+        rule4 = λ u v a b c p q. carried (by-way p) q;
+        rule5 = λ u v a b p q. carried (le-way p) q;
+        rule6 = λ u v w a p q. way-by (le-way p) q;
+        rule7 = λ u l. same l;
+        rule8 = λ u v w p q. le-le p q;
+        rule9 = λ u v w a b p q. way-by (by-way p) q;
+      }

@@ -1,0 +1,194 @@
+-- What `holds` says, as a type: `Holds` has a constructor for each way in which the test comes out true, and speaks of the given facts alone.
+use Prim.Native.Nat.{ℕ, zero, suc, _<_}
+use mathlib.Core.Path.{_≡_, refl}
+use mathlib.Core.Bool.{Bool, true, false}
+use mathlib.Core.List.{List, [], _∷_}
+use mathlib.Core.Logic.{_⊎_, inl, inr}
+use native.Mathlib.Omega.{arith}
+use native.Mathlib.Nat.{eq-or-lt-of-le, le-of-suc-le-suc}
+use Rattle.scope.specs.Logic.Facts.{Fact, le, by, sf, Among, here, there}
+use Rattle.scope.specs.Logic.Held.{Edge, edge, way, lesOf, linksOf, addIf, pairsAt, reaches, fromBelow, holds}
+use Rattle.scope.specs.Closing.Paths.{Agrees, agrees-as, agrees-none, agrees-both, agrees-either, agrees-eqb, agrees-ltb}
+use Rattle.scope.specs.Closing.Paths.{Path, Way, path-agrees, way-agrees, On, first, later}
+
+-- An edge of `lesOf` is a given u ≤ v, and each of these is one; likewise below for the links and the pairs.
+pub les-given : (fs : List Fact) {u v : ℕ} → On (edge u v) (lesOf fs) → Among fs (le u v)
+unfolding lesOf
+les-given (le u v ∷ fs) first = here
+les-given (le u v ∷ fs) (later o) = there (les-given fs o)
+les-given (by a u v ∷ fs) o = there (les-given fs o)
+les-given (sf u a b ∷ fs) o = there (les-given fs o)
+
+pub given-le : {u v : ℕ} {fs : List Fact} → Among fs (le u v) → On (edge u v) (lesOf fs)
+unfolding lesOf
+given-le here = first
+given-le (there {g = le x y} i) = later (given-le i)
+given-le (there {g = by a x y} i) = given-le i
+given-le (there {g = sf x a b} i) = given-le i
+
+-- A link is a given u ≤ v or u S_A v.
+pub data Link (fs : List Fact) (u v : ℕ) : Type 0 where
+  link-le : Among fs (le u v) → Link fs u v
+  link-by : {a : ℕ} → Among fs (by a u v) → Link fs u v
+
+link-later : {g : Fact} {fs : List Fact} {u v : ℕ} → Link fs u v → Link (g ∷ fs) u v
+link-later (link-le i) = link-le (there i)
+link-later (link-by i) = link-by (there i)
+
+pub links-given : (fs : List Fact) {u v : ℕ} → On (edge u v) (linksOf fs) → Link fs u v
+unfolding linksOf
+links-given (le u v ∷ fs) first = link-le here
+links-given (le u v ∷ fs) (later o) = link-later (links-given fs o)
+links-given (by a u v ∷ fs) first = link-by here
+links-given (by a u v ∷ fs) (later o) = link-later (links-given fs o)
+links-given (sf u a b ∷ fs) o = link-later (links-given fs o)
+
+pub le-links : {u v : ℕ} {fs : List Fact} → Among fs (le u v) → On (edge u v) (linksOf fs)
+unfolding linksOf
+le-links here = first
+le-links (there {g = le x y} i) = later (le-links i)
+le-links (there {g = by a x y} i) = later (le-links i)
+le-links (there {g = sf x a b} i) = le-links i
+
+pub by-links : {a u v : ℕ} {fs : List Fact} → Among fs (by a u v) → On (edge u v) (linksOf fs)
+unfolding linksOf
+by-links here = first
+by-links (there {g = le x y} i) = later (by-links i)
+by-links (there {g = by a x y} i) = later (by-links i)
+by-links (there {g = sf x a b} i) = by-links i
+
+-- A pair at u is an A sf B given at a world from which links lead to u.
+pub data Pair (links : List Edge) (u a b : ℕ) (fs : List Fact) : Type 0 where
+  pair : {x : ℕ} → Among fs (sf x a b) → Way links x u → Pair links u a b fs
+
+pair-later : {links : List Edge} {u a b : ℕ} {g : Fact} {fs : List Fact} → Pair links u a b fs → Pair links u a b (g ∷ fs)
+pair-later (pair i w) = pair (there i) w
+
+pub pairs-given : (links : List Edge) (u : ℕ) (fs : List Fact) {a b : ℕ} → On (edge a b) (pairsAt links u fs) → Pair links u a b fs
+unfolding pairsAt
+pairs-given links u (le x v ∷ fs) o = pair-later (pairs-given links u fs o)
+pairs-given links u (by c x v ∷ fs) o = pair-later (pairs-given links u fs o)
+pairs-given links u (sf x c d ∷ fs) {a} {b} o =
+    either-way (way links x u) (way-agrees links x u) o (λ p. pair-later (pairs-given links u fs p))
+  where
+    either-way : (t : Bool) {a b c d u x : ℕ} {links es : List Edge} {fs : List Fact} → Agrees t (Way links x u) →
+        On (edge a b) (addIf t (edge c d) es) → (On (edge a b) es → Pair links u a b (sf x c d ∷ fs)) →
+        Pair links u a b (sf x c d ∷ fs)
+    either-way true r first f = pair here (r .sound refl)
+    either-way true r (later o) f = f o
+    either-way false r o f = f o
+
+pub given-pair : (links : List Edge) (u : ℕ) {x a b : ℕ} {fs : List Fact} → Among fs (sf x a b) → Way links x u →
+    On (edge a b) (pairsAt links u fs)
+unfolding pairsAt
+given-pair links u {x} here w = rw (way-agrees links x u .full w) first
+given-pair links u (there {g = le y z} i) w = given-pair links u i w
+given-pair links u (there {g = by c y z} i) w = given-pair links u i w
+given-pair links u (there {g = sf y c d} i) w = under (way links y u) (edge c d) (given-pair links u i w)
+  where
+    under : (t : Bool) (d : Edge) {e : Edge} {es : List Edge} → On e es → On e (addIf t d es)
+    under true d o = later o
+    under false d o = o
+
+-- Some x S_B w is given, to which links lead from u, and x: A sf B.
+pub data Reach (all : List Fact) (links : List Edge) (a u w : ℕ) (fs : List Fact) : Type 0 where
+  reach : {b x : ℕ} → Among fs (by b x w) → Way links u x → Way (pairsAt links x all) a b → Reach all links a u w fs
+
+-- Links lead to u from a world below n.
+pub data Below (n : ℕ) (links : List Edge) (u : ℕ) : Type 0 where
+  below : {x : ℕ} → x < n → Way links x u → Below n links u
+
+-- `holds`, constructor for case.
+pub data Holds (n k : ℕ) (fs : List Fact) : Fact → Type 0 where
+  same : {u : ℕ} → u < n → Holds n k fs (le u u)
+  up : {u v : ℕ} → Path (lesOf fs) u v → Holds n k fs (le u v)
+  self : {u a : ℕ} → a < k → Below n (linksOf fs) u → Holds n k fs (sf u a a)
+  speaks : {u a b : ℕ} → Path (pairsAt (linksOf fs) u fs) a b → Holds n k fs (sf u a b)
+  sees : {a u w : ℕ} → Reach fs (linksOf fs) a u w fs → Holds n k fs (by a u w)
+
+reach-later : {all : List Fact} {links : List Edge} {a u w : ℕ} {g : Fact} {fs : List Fact} →
+    Reach all links a u w fs → Reach all links a u w (g ∷ fs)
+reach-later (reach i s t) = reach (there i) s t
+
+reaches-agrees : (all : List Fact) (links : List Edge) (a u w : ℕ) (fs : List Fact) →
+    Agrees (reaches all links a u w fs) (Reach all links a u w fs)
+unfolding reaches
+reaches-agrees all links a u w [] = agrees-none none
+  where
+    none : Reach all links a u w [] → ⊥
+    none (reach i s t) = elim i [ ]
+reaches-agrees all links a u w (le x v ∷ fs) = agrees-as reach-later from (reaches-agrees all links a u w fs)
+  where
+    from : Reach all links a u w (le x v ∷ fs) → Reach all links a u w fs
+    from (reach (there i) s t) = reach i s t
+reaches-agrees all links a u w (sf x b c ∷ fs) = agrees-as reach-later from (reaches-agrees all links a u w fs)
+  where
+    from : Reach all links a u w (sf x b c ∷ fs) → Reach all links a u w fs
+    from (reach (there i) s t) = reach i s t
+reaches-agrees all links a u w (by b x v ∷ fs) =
+    agrees-as to from
+    (agrees-either
+    (agrees-both (agrees-eqb v w) (agrees-both (way-agrees links u x)
+    (way-agrees (pairsAt links x all) a b)))
+    (reaches-agrees all links a u w fs))
+  where
+    to : ((v ≡ w) × (Way links u x × Way (pairsAt links x all) a b)) ⊎ Reach all links a u w fs →
+        Reach all links a u w (by b x v ∷ fs)
+    to (inl p) = rw (← p .0) (reach here (p .1 .0) (p .1 .1))
+    to (inr r) = reach-later r
+
+    from : {w : ℕ} → Reach all links a u w (by b x v ∷ fs) →
+        ((v ≡ w) × (Way links u x × Way (pairsAt links x all) a b)) ⊎ Reach all links a u w fs
+    from (reach here s t) = inl (refl, (s, t))
+    from (reach (there i) s t) = inr (reach i s t)
+
+below-agrees : (n : ℕ) (links : List Edge) (u : ℕ) → Agrees (fromBelow n links u) (Below n links u)
+unfolding fromBelow
+below-agrees zero links u = agrees-none none
+  where
+    none : Below 0 links u → ⊥
+    none (below l w) = omega arith
+below-agrees (suc n) links u =
+    agrees-as to from (agrees-either (way-agrees links n u) (below-agrees n links u))
+  where
+    to : Way links n u ⊎ Below n links u → Below (suc n) links u
+    to (inl w) = below {x = n} (omega arith) w
+    to (inr (below {x} l w)) = below {x = x} (omega arith) w
+
+    from : Below (suc n) links u → Way links n u ⊎ Below n links u
+    from (below {x} l w) = by-place (eq-or-lt-of-le (le-of-suc-le-suc l)) w
+      where
+        by-place : (x ≡ n) ⊎ (x < n) → Way links x u → Way links n u ⊎ Below n links u
+        by-place (inl e) w = inl (rw e at w)
+        by-place (inr l) w = inr (below l w)
+
+pub holds-agrees : (n k : ℕ) (fs : List Fact) (f : Fact) → Agrees (holds n k fs f) (Holds n k fs f)
+unfolding holds
+holds-agrees n k fs (le u v) =
+    agrees-as to from (agrees-either (agrees-both (agrees-eqb u v) (agrees-ltb u n)) (path-agrees (lesOf fs) u v))
+  where
+    to : ((u ≡ v) × (u < n)) ⊎ Path (lesOf fs) u v → Holds n k fs (le u v)
+    to (inl p) = rw (← p .0) (same (p .1))
+    to (inr p) = up p
+
+    from : {v : ℕ} → Holds n k fs (le u v) → ((u ≡ v) × (u < n)) ⊎ Path (lesOf fs) u v
+    from (same l) = inl (refl, l)
+    from (up p) = inr p
+holds-agrees n k fs (sf u a b) =
+    agrees-as to from
+    (agrees-either
+    (agrees-both (agrees-eqb a b) (agrees-both (agrees-ltb a k) (below-agrees n (linksOf fs) u)))
+    (path-agrees (pairsAt (linksOf fs) u fs) a b))
+  where
+    to : ((a ≡ b) × ((a < k) × Below n (linksOf fs) u)) ⊎ Path (pairsAt (linksOf fs) u fs) a b → Holds n k fs (sf u a b)
+    to (inl p) = rw (← p .0) (self (p .1 .0) (p .1 .1))
+    to (inr p) = speaks p
+
+    from : {b : ℕ} → Holds n k fs (sf u a b) →
+        ((a ≡ b) × ((a < k) × Below n (linksOf fs) u)) ⊎ Path (pairsAt (linksOf fs) u fs) a b
+    from (self l s) = inl (refl, (l, s))
+    from (speaks p) = inr p
+holds-agrees n k fs (by a u w) = agrees-as (λ r. sees r) from (reaches-agrees fs (linksOf fs) a u w fs)
+  where
+    from : Holds n k fs (by a u w) → Reach fs (linksOf fs) a u w fs
+    from (sees r) = r

@@ -1,0 +1,47 @@
+-- The request that a text gives, or its refusal: 'lines in order, each 2, 3, 4, 5; then 6'.
+use Prim.Native.Nat.{ℕ, suc}
+use mathlib.Core.List.{List, [], _∷_}
+use lib.ListN.{length}
+use Rattle.scope.specs.File.Request.{Row, Request}
+use Rattle.scope.specs.File.Number.{number}
+use Rattle.scope.specs.File.Line.{Read, ok, bad, Reader, line, counted, done, _>>=_}
+use Rattle.scope.specs.Limits.{versionAt, principalsAt, atomsAt, formulasAt, formAt, clausesAt, clauseAt, goalAt, stepsAt, stepAt, endAt}
+use Rattle.scope.specs.File.Kinds.{formKinds, stepKinds, rowIn}
+use Rattle.scope.specs.File.Refusals.{countRefusal, versionRefusal, principalsRefusal, atomsRefusal, formulasRefusal, formRefusal, clausesRefusal, clauseRefusal, goalRefusal, stepsRefusal, stepRefusal}
+use Rattle.scope.specs.File.Text.{versionLine, principalsLine, atomsLine, formulasLine, formLine, clausesLine, clauseLine, goalLine, stepsLine, stepLine}
+
+pub data Outcome : Type 0 where
+  read : Request → Outcome
+  refused : ℕ → ℕ → Outcome
+
+-- One more `form=` line, behind the formulas before it; and the like.
+abbrev pub formItem : ℕ → ℕ → List Row → Reader Row
+formItem principals atoms before = line formLine (formRefusal principals atoms before) (formAt (length before))
+
+abbrev pub clauseItem : List Row → List ℕ → Reader ℕ
+clauseItem forms before = line clauseLine (clauseRefusal forms) (clauseAt (length forms) (length before))
+
+abbrev pub stepItem : ℕ → ℕ → List Row → Reader Row
+stepItem formulas clauses before = line stepLine stepRefusal (stepAt formulas clauses (suc (length before)))
+
+unfoldable pub requestLines : Reader Request
+unfolding line counted _>>=_ number rowIn formKinds stepKinds countRefusal formRefusal clauseRefusal goalRefusal stepRefusal
+requestLines = do
+  version ← line versionLine versionRefusal versionAt
+  principals ← line principalsLine principalsRefusal principalsAt
+  atoms ← line atomsLine atomsRefusal atomsAt
+  forms ← counted formulasLine formulasRefusal formulasAt (formItem principals atoms)
+  lines ← counted clausesLine clausesRefusal (clausesAt (length forms)) (clauseItem forms)
+  goal ← line goalLine (goalRefusal forms) (goalAt (length forms) (length lines))
+  steps ← counted stepsLine stepsRefusal (stepsAt (length forms) (length lines)) (stepItem (length forms) (length lines))
+  done record { principals = principals; atoms = atoms; forms = forms; lines = lines; goal = goal; steps = steps }
+
+-- 'Nothing follows.' 'bytes after the last step'
+unfoldable pub ended : Read Request → Outcome
+ended (ok q []) = read q
+ended (ok q (b ∷ rest)) = refused 6 (endAt (length (q .forms)) (length (q .lines)) (length (q .steps)))
+ended (bad k i) = refused k i
+
+unfoldable pub readRequest : List ℕ → Outcome
+unfolding requestLines ended
+readRequest s = ended (requestLines s)

@@ -1,0 +1,3 @@
+-- Cases and limits of document 01, computed by the checker.
+pub mod Cases
+pub mod Bounds
