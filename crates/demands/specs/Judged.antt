@@ -13,8 +13,8 @@ use Rattle.scope.specs.Logic.Room.{within}
 use Rattle.scope.specs.Call.Judge.{policyOf, goalOf, stepsOf, startOf, stepsAnswer, else, judge}
 use Rattle.scope.specs.Logic.Models.{Model, Frame, Sat, SatAll, Entailed}
 use Rattle.granted.specs.Reasons.{Settled, grants, breaks}
-use Rattle.granted.specs.Granted.{granted}
-use Rattle.granted.specs.FirstBreak.{settled, break-range}
+use Rattle.granted.specs.Statements.{granted, settled}
+use Rattle.granted.specs.FirstBreak.{break-range}
 use Rattle.sound.specs.Rows.{request-sound}
 use Rattle.scope.specs.Tools.Tests.{never}
 use Rattle.trip.specs.File.{Unrefused}

@@ -75,12 +75,12 @@ module _ (room : Room) where
       reached d 0 n (omega arith) ∙ walk-over room n o waiting x left new r t
   breaks-walk (too-short {n} d) = reached d 0 n (omega arith)
 
-  met : (i : ℕ) (os : List Obligation) (xs : List Step) → Met room i os xs (walk room i os xs)
+  meets : (i : ℕ) (os : List Obligation) (xs : List Step) → Met room i os xs (walk room i os xs)
   unfolding walk
-  met i [] [] = whole refl
-  met i (o ∷ waiting) [] = broken (too-short here) (ap (answer 12) (omega arith))
-  met i [] (x ∷ xs) = broken (too-long here) (ap (answer 11) (omega arith))
-  met i (o ∷ waiting) (x ∷ xs) = go (turn room i o waiting x xs) (λ new. met (suc i) (new ++ waiting) xs)
+  meets i [] [] = whole refl
+  meets i (o ∷ waiting) [] = broken (too-short here) (ap (answer 12) (omega arith))
+  meets i [] (x ∷ xs) = broken (too-long here) (ap (answer 11) (omega arith))
+  meets i (o ∷ waiting) (x ∷ xs) = go (turn room i o waiting x xs) (λ new. meets (suc i) (new ++ waiting) xs)
     where
       next : {new : List Obligation} → Rule o x new → room (length waiting) new ≡ true → (a : Answer) →
           a ≡ walk room (suc i) (new ++ waiting) xs →
@@ -113,7 +113,7 @@ module _ (room : Room) where
   pub first-break : (os : List Obligation) (xs : List Step) (k p : ℕ) →
       ((walk room 0 os xs ≡ answer k p) × ¬ (answer k p ≡ answer 0 0)) ↔ Breaks room os xs k p
   first-break os xs k p =
-      (λ h. met-break k p (met 0 os xs) (h .0) (h .1), λ b. (breaks-walk b, λ e. break-place b e))
+      (λ h. met-break k p (meets 0 os xs) (h .0) (h .1), λ b. (breaks-walk b, λ e. break-place b e))
 
   settled-walk : {o : Obligation} {xs : List Step} {a : Answer} → Settled room o xs a → walk room 0 (o ∷ []) xs ≡ a
   settled-walk {o} {xs} (grants d) = granted room o xs .1 d
@@ -125,7 +125,7 @@ module _ (room : Room) where
   met-settled o xs a e (broken {k} {p} b q) = rw q (breaks (let same : p ≡ p + 0 = omega arith in rw same at b))
 
   pub settled : (o : Obligation) (xs : List Step) (a : Answer) → walk room 0 (o ∷ []) xs ≡ a ↔ Settled room o xs a
-  settled o xs a = (λ e. met-settled o xs a e (rw e at (met 0 (o ∷ []) xs)), λ s. settled-walk s)
+  settled o xs a = (λ e. met-settled o xs a e (rw e at (meets 0 (o ∷ []) xs)), λ s. settled-walk s)
 
   -- Any two answers that are allowed are equal.
   pub one-answer : {o : Obligation} {xs : List Step} {a b : Answer} → Settled room o xs a → Settled room o xs b → a ≡ b

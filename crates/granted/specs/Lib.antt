@@ -7,3 +7,4 @@ pub mod Walks
 pub mod Granted
 pub mod FirstBreak
 pub mod LimitsOnly
+pub mod Statements
