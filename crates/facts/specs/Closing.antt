@@ -5,36 +5,36 @@ use mathlib.Core.Path.{_≡_}
 use mathlib.Core.Logic.{⊎-elim}
 use native.Mathlib.Omega.{arith}
 use native.Mathlib.Nat.{eq-or-lt-of-le}
-use Rattle.scope.specs.Logic.Facts.{Fact, le, by, sf, Rules}
+use Rattle.scope.specs.Logic.Facts.{Fact, le, by, sf, Sheet, grown, Rules}
 use Rattle.facts.specs.Kept.{Proper, Way, stop, up-le, up-by, way-from}
 
 -- Along a way sf facts go on (rules 4 and 5), and S facts from its end are S facts from its beginning (rules 6 and 9).
-pub way-sf : {n k : ℕ} {H : Fact → Type 0} {x y a b : ℕ} → Rules n k H → Way n H x y → H (sf x a b) → H (sf y a b)
+pub way-sf : {sh : Sheet} {H : Fact → Type 0} {x y a b : ℕ} → Rules sh H → Way sh H x y → H (sf x a b) → H (sf y a b)
 way-sf R (stop h) q = q
 way-sf {a = a} {b = b} R (up-le {x} {y} p w) q = way-sf R w (R .rule5 x y a b p q)
 way-sf {a = a} {b = b} R (up-by {a = c} {x} {y} p w) q = way-sf R w (R .rule4 x y a b c p q)
 
-pub way-by : {n k : ℕ} {H : Fact → Type 0} {x y z a : ℕ} → Rules n k H → Way n H x y → H (by a y z) → H (by a x z)
+pub way-by : {sh : Sheet} {H : Fact → Type 0} {x y z a : ℕ} → Rules sh H → Way sh H x y → H (by a y z) → H (by a x z)
 way-by R (stop h) q = q
 way-by {z = z′} {a = a} R (up-le {x} {y} p w) q = R .rule6 x y z′ a p (way-by R w q)
 way-by {z = z′} {a = a} R (up-by {a = b} {x} {y} p w) q = R .rule9 x y z′ a b p (way-by R w q)
 
 -- A way stays one among more worlds and facts, and goes on by another way.
-pub way-more : {n m : ℕ} {H G : Fact → Type 0} {x y : ℕ} →
-    n ≤ m → ((f : Fact) → H f → G f) → Way n H x y → Way m G x y
+pub way-more : {sh th : Sheet} {H G : Fact → Type 0} {x y : ℕ} →
+    sh .worlds ≤ th .worlds → ((f : Fact) → H f → G f) → Way sh H x y → Way th G x y
 way-more l g (stop {x} h) = stop {x = x} (omega arith)
 way-more l g (up-le {x} {y} p w) = up-le (g (le x y) p) (way-more l g w)
 way-more l g (up-by {a} {x} {y} p w) = up-by (g (by a x y) p) (way-more l g w)
 
-pub way-then : {n : ℕ} {H : Fact → Type 0} {x y z : ℕ} → Way n H x y → Way n H y z → Way n H x z
+pub way-then : {sh : Sheet} {H : Fact → Type 0} {x y z : ℕ} → Way sh H x y → Way sh H y z → Way sh H x z
 way-then (stop h) v = v
 way-then (up-le p w) v = up-le p (way-then w v)
 way-then (up-by p w) v = up-by p (way-then w v)
 
--- A new world n behind u: which worlds are ≤ n by it (`Less`), and which see n as which principal (`Sees`).
-pub record Leads (n u : ℕ) (H : Fact → Type 0) (Less : ℕ → Type 0) (Sees : ℕ → ℕ → Type 0) : Type 0 where
-  pub less-way : (x : ℕ) → Less x → Way n H x u
-  pub sees-way : (a x : ℕ) → Sees a x → Way n H x u
+-- A new world n behind u, n the worlds so far: which worlds are ≤ n by it (`Less`), and which see n as which principal (`Sees`).
+pub record Leads (sh : Sheet) (u : ℕ) (H : Fact → Type 0) (Less : ℕ → Type 0) (Sees : ℕ → ℕ → Type 0) : Type 0 where
+  pub less-way : (x : ℕ) → Less x → Way sh H x u
+  pub sees-way : (a x : ℕ) → Sees a x → Way sh H x u
   -- rules 2, 6, 8 and 9 at the new world
   pub sees-sf : (a b x : ℕ) → Sees b x → H (sf x a b) → Sees a x
   pub le-sees : (a x y : ℕ) → H (le x y) → Sees a y → Sees a x
@@ -42,43 +42,43 @@ pub record Leads (n u : ℕ) (H : Fact → Type 0) (Less : ℕ → Type 0) (Sees
   pub by-sees : (a b x y : ℕ) → H (by b x y) → Sees a y → Sees a x
 
 -- The old facts and those that lead to the new world n.
-pub data New (n u : ℕ) (H : Fact → Type 0) (Less : ℕ → Type 0) (Sees : ℕ → ℕ → Type 0) : Fact → Type 0 where
-  old : {f : Fact} → H f → New n u H Less Sees f
-  self : {x v : ℕ} → x ≡ n → v ≡ n → New n u H Less Sees (le x v)
-  less : {x v : ℕ} → v ≡ n → Less x → New n u H Less Sees (le x v)
-  sees : {a x v : ℕ} → v ≡ n → Sees a x → New n u H Less Sees (by a x v)
-  like : {v a b : ℕ} → v ≡ n → H (sf u a b) → New n u H Less Sees (sf v a b)
+pub data New (sh : Sheet) (u : ℕ) (H : Fact → Type 0) (Less : ℕ → Type 0) (Sees : ℕ → ℕ → Type 0) : Fact → Type 0 where
+  old : {f : Fact} → H f → New sh u H Less Sees f
+  self : {x v : ℕ} → x ≡ sh .worlds → v ≡ sh .worlds → New sh u H Less Sees (le x v)
+  less : {x v : ℕ} → v ≡ sh .worlds → Less x → New sh u H Less Sees (le x v)
+  sees : {a x v : ℕ} → v ≡ sh .worlds → Sees a x → New sh u H Less Sees (by a x v)
+  like : {v a b : ℕ} → v ≡ sh .worlds → H (sf u a b) → New sh u H Less Sees (sf v a b)
 
 -- and the old ways and those that lead to it.
-pub data Reached (n u : ℕ) (H : Fact → Type 0) : ℕ → ℕ → Type 0 where
-  before : {x v : ℕ} → Way n H x v → Reached n u H x v
-  itself : {x v : ℕ} → x ≡ n → v ≡ n → Reached n u H x v
-  past : {x v : ℕ} → v ≡ n → Way n H x u → Reached n u H x v
+pub data Reached (sh : Sheet) (u : ℕ) (H : Fact → Type 0) : ℕ → ℕ → Type 0 where
+  before : {x v : ℕ} → Way sh H x v → Reached sh u H x v
+  itself : {x v : ℕ} → x ≡ sh .worlds → v ≡ sh .worlds → Reached sh u H x v
+  past : {x v : ℕ} → v ≡ sh .worlds → Way sh H x u → Reached sh u H x v
 
-module _ (n k u : ℕ) (H : Fact → Type 0) (Less : ℕ → Type 0) (Sees : ℕ → ℕ → Type 0)
-    (inside : u < n) (R : Rules n k H) (P : (f : Fact) → H f → Proper n k f) (L : Leads n u H Less Sees) where
+module _ (sh : Sheet) (u : ℕ) (H : Fact → Type 0) (Less : ℕ → Type 0) (Sees : ℕ → ℕ → Type 0)
+    (inside : u < sh .worlds) (R : Rules sh H) (P : (f : Fact) → H f → Proper sh f) (L : Leads sh u H Less Sees) where
   abbrev N : Fact → Type 0
-  N = New n u H Less Sees
+  N = New sh u H Less Sees
 
   -- no old fact and no way begins or ends at the new world
-  le-low : {x y : ℕ} → H (le x y) → (x ≤ y) × (y < n)
+  le-low : {x y : ℕ} → H (le x y) → (x ≤ y) × (y < sh .worlds)
   le-low {x} {y} p = P (le x y) p
 
-  by-low : {a x y : ℕ} → H (by a x y) → (a < k) × (x < y) × (y < n)
+  by-low : {a x y : ℕ} → H (by a x y) → (a < sh .principals) × (x < y) × (y < sh .worlds)
   by-low {a} {x} {y} p = P (by a x y) p
 
-  sf-low : {x a b : ℕ} → H (sf x a b) → (x < n) × (a < k) × (b < k)
+  sf-low : {x a b : ℕ} → H (sf x a b) → (x < sh .worlds) × (a < sh .principals) × (b < sh .principals)
   sf-low {x} {a} {b} p = P (sf x a b) p
 
-  less-low : (x : ℕ) → Less x → x < n
+  less-low : (x : ℕ) → Less x → x < sh .worlds
   less-low x l = way-from P (L .less-way x l)
 
-  sees-low : (a x : ℕ) → Sees a x → x < n
+  sees-low : (a x : ℕ) → Sees a x → x < sh .worlds
   sees-low a x s = way-from P (L .sees-way a x s)
 
-  new1 : (v a : ℕ) → v < suc n → a < k → N (sf v a a)
+  new1 : (v a : ℕ) → v < suc (sh .worlds) → a < sh .principals → N (sf v a a)
   new1 v a h g =
-      ⊎-elim (λ e. like e (R .rule1 u a inside g)) (λ l. old (R .rule1 v a l g)) (eq-or-lt-of-le {n = v} {m = n} (omega arith))
+      ⊎-elim (λ e. like e (R .rule1 u a inside g)) (λ l. old (R .rule1 v a l g)) (eq-or-lt-of-le {n = v} {m = sh .worlds} (omega arith))
 
   new2 : (x v a b : ℕ) → N (by b x v) → N (sf x a b) → N (by a x v)
   new2 x v a b (old p) (old q) = old (R .rule2 x v a b p q)
@@ -114,8 +114,8 @@ module _ (n k u : ℕ) (H : Fact → Type 0) (Less : ℕ → Type 0) (Sees : ℕ
   new6 x y w a (less e l) (old q) = absurd (omega (arith, by-low q))
   new6 x y w a (less e l) (sees c s) = absurd (omega (arith, sees-low a y s))
 
-  new7 : (x : ℕ) → x < suc n → N (le x x)
-  new7 x h = ⊎-elim (λ e. self e e) (λ l. old (R .rule7 x l)) (eq-or-lt-of-le {n = x} {m = n} (omega arith))
+  new7 : (x : ℕ) → x < suc (sh .worlds) → N (le x x)
+  new7 x h = ⊎-elim (λ e. self e e) (λ l. old (R .rule7 x l)) (eq-or-lt-of-le {n = x} {m = sh .worlds} (omega arith))
 
   new8 : (x y w : ℕ) → N (le x y) → N (le y w) → N (le x w)
   new8 x y w (old p) (old q) = old (R .rule8 x y w p q)
@@ -135,7 +135,7 @@ module _ (n k u : ℕ) (H : Fact → Type 0) (Less : ℕ → Type 0) (Sees : ℕ
   new9 x y w a b (sees e s) (sees d t) = absurd (omega (arith, sees-low a y t))
 
   -- The old and the new facts are closed among one world more.
-  pub new-closed : Rules (suc n) k (New n u H Less Sees)
+  pub new-closed : Rules (grown sh) (New sh u H Less Sees)
   new-closed =
       record {
         rule1 = new1;
@@ -150,7 +150,7 @@ module _ (n k u : ℕ) (H : Fact → Type 0) (Less : ℕ → Type 0) (Sees : ℕ
       }
 
   -- A step before what is reached is reached.
-  le-reached : (x y z : ℕ) → N (le x y) → Reached n u H y z → Reached n u H x z
+  le-reached : (x y z : ℕ) → N (le x y) → Reached sh u H y z → Reached sh u H x z
   le-reached x y z (old p) (before w) = before (up-le p w)
   le-reached x y z (old p) (itself d e) = absurd (omega (arith, le-low p))
   le-reached x y z (old p) (past e w) = past e (up-le p w)
@@ -161,7 +161,7 @@ module _ (n k u : ℕ) (H : Fact → Type 0) (Less : ℕ → Type 0) (Sees : ℕ
   le-reached x y z (less e l) (itself c f) = past f (L .less-way x l)
   le-reached x y z (less e l) (past c w) = absurd (omega (arith, way-from P w))
 
-  by-reached : (a x y z : ℕ) → N (by a x y) → Reached n u H y z → Reached n u H x z
+  by-reached : (a x y z : ℕ) → N (by a x y) → Reached sh u H y z → Reached sh u H x z
   by-reached a x y z (old p) (before w) = before (up-by p w)
   by-reached a x y z (old p) (itself d e) = absurd (omega (arith, by-low p))
   by-reached a x y z (old p) (past e w) = past e (up-by p w)
@@ -170,9 +170,9 @@ module _ (n k u : ℕ) (H : Fact → Type 0) (Less : ℕ → Type 0) (Sees : ℕ
   by-reached a x y z (sees e s) (past c w) = absurd (omega (arith, way-from P w))
 
   -- The ways of the old and the new facts are the old ones and those to the new world.
-  pub new-reached : {x z : ℕ} → Way (suc n) (New n u H Less Sees) x z → Reached n u H x z
+  pub new-reached : {x z : ℕ} → Way (grown sh) (New sh u H Less Sees) x z → Reached sh u H x z
   new-reached (stop {x} h) =
-      ⊎-elim (λ e. itself e e) (λ l. before (stop l)) (eq-or-lt-of-le {n = x} {m = n} (omega arith))
+      ⊎-elim (λ e. itself e e) (λ l. before (stop l)) (eq-or-lt-of-le {n = x} {m = sh .worlds} (omega arith))
   new-reached (up-le {x} {y} {z} p w) = le-reached x y z p (new-reached w)
   new-reached (up-by {a} {x} {y} {z} p w) = by-reached a x y z p (new-reached w)
 
@@ -181,7 +181,7 @@ pub data Noted (m a b : ℕ) (H : Fact → Type 0) : Fact → Type 0 where
   kept : {f : Fact} → H f → Noted m a b H f
   note : {v c d : ℕ} → v ≡ m → H (sf m c a) → H (sf m b d) → Noted m a b H (sf v c d)
 
-module _ (m k a b : ℕ) (H : Fact → Type 0) (R : Rules (suc m) k H) (P : (f : Fact) → H f → Proper (suc m) k f) where
+module _ (sh : Sheet) (m a b : ℕ) (newest : sh .worlds ≡ suc m) (H : Fact → Type 0) (R : Rules sh H) (P : (f : Fact) → H f → Proper sh f) where
   abbrev M : Fact → Type 0
   M = Noted m a b H
 
@@ -193,10 +193,10 @@ module _ (m k a b : ℕ) (H : Fact → Type 0) (R : Rules (suc m) k H) (P : (f :
   old-by c x y (kept p) = p
 
   -- and none leads away from m
-  no-by : {c x y : ℕ} → H (by c x y) → (c < k) × (x < y) × (y < suc m)
+  no-by : {c x y : ℕ} → H (by c x y) → (c < sh .principals) × (x < y) × (y < sh .worlds)
   no-by {c} {x} {y} p = P (by c x y) p
 
-  no-le : {x y : ℕ} → H (le x y) → (x ≤ y) × (y < suc m)
+  no-le : {x y : ℕ} → H (le x y) → (x ≤ y) × (y < sh .worlds)
   no-le {x} {y} p = P (le x y) p
 
   noted2 : (x v c d : ℕ) → M (by d x v) → M (sf x c d) → M (by c x v)
@@ -218,7 +218,7 @@ module _ (m k a b : ℕ) (H : Fact → Type 0) (R : Rules (suc m) k H) (P : (f :
   noted5 x v c d (kept p) (note h q r) = let e : v ≡ m = omega (arith, no-le p) in note e q r
 
   -- They are closed among the same worlds.
-  pub noted-closed : Rules (suc m) k (Noted m a b H)
+  pub noted-closed : Rules sh (Noted m a b H)
   noted-closed =
       record {
         rule1 = λ x c h g. kept (R .rule1 x c h g);
@@ -233,7 +233,7 @@ module _ (m k a b : ℕ) (H : Fact → Type 0) (R : Rules (suc m) k H) (P : (f :
       }
 
   -- and their ways are the old ones.
-  pub noted-way : {x z : ℕ} → Way (suc m) (Noted m a b H) x z → Way (suc m) H x z
+  pub noted-way : {x z : ℕ} → Way sh (Noted m a b H) x z → Way sh H x z
   noted-way (stop h) = stop h
   noted-way (up-le {x} {y} p w) = up-le (old-le x y p) (noted-way w)
   noted-way (up-by {a = c} {x} {y} p w) = up-by (old-by c x y p) (noted-way w)

@@ -7,7 +7,7 @@ use mathlib.Core.Path.{_≡_, refl}
 use mathlib.Core.List.{List, [], _∷_}
 use mathlib.Core.Logic.{_↔_}
 use native.Mathlib.Omega.{arith}
-use Rattle.scope.specs.Logic.Facts.{Fact, le, by, sf, Closed, Among}
+use Rattle.scope.specs.Logic.Facts.{Fact, le, by, sf, Sheet, grown, Closed, Among}
 use Rattle.facts.specs.Rows.{worldsMax, principalsMax, told, sfRows, putSf, rootRows, grownLe, grownBy, noted}
 use Rattle.facts.specs.Kept.{Aimed, Kept, Agree, agree-self, agree-then, agree-put, kept-back}
 use Rattle.facts.specs.Grown.{kept-le, kept-by, agree-le, agree-by}
@@ -23,18 +23,19 @@ pub data Branch (m : ℕ) (r : List ℕ) : List ℕ → Type 0 where
   more-note : {s : List ℕ} (n a b : ℕ) → Branch m r s → m ≤ n → Branch m r (noted s n a b)
   more-back : {s : List ℕ} (n : ℕ) (t : List ℕ) → Branch m r s → m ≤ n → Branch m r (putSf s n t)
 
--- Rows of a sequent with n worlds, k principals and the given facts fs: the root, to which the policy's sf lines are notes at world 0; a new
+-- Rows of a sequent with a sheet and the given facts fs: the root, to which the policy's sf lines are notes at world 0; a new
 -- world behind u by ≤ or by S_a; a note at the newest world; and the return to a mark, the saved rows of sf of the newest world put back.
-pub data Built (k : ℕ) : ℕ → List Fact → List ℕ → Type 0 where
-  root : Built k 1 [] rootRows
-  new-le : {n u : ℕ} {fs : List Fact} {r : List ℕ} →
-      Built k n fs r → u < n → n < worldsMax → Built k (suc n) (le u n ∷ fs) (grownLe r u n)
-  new-by : {n a u : ℕ} {fs : List Fact} {r : List ℕ} →
-      Built k n fs r → a < k → u < n → n < worldsMax → Built k (suc n) (by a u n ∷ fs) (grownBy r a u n)
-  new-note : {m a b : ℕ} {fs : List Fact} {r : List ℕ} →
-      Built k (suc m) fs r → a < k → b < k → Built k (suc m) (sf m a b ∷ fs) (noted r m a b)
-  return : {m : ℕ} {fs : List Fact} {r s : List ℕ} →
-      Built k (suc m) fs r → Branch m r s → Built k (suc m) fs (putSf s m (sfRows r m))
+pub data Built : Sheet → List Fact → List ℕ → Type 0 where
+  root : {sh : Sheet} → sh .worlds ≡ 1 → sh .principals ≤ principalsMax → Built sh [] rootRows
+  new-le : {sh : Sheet} {u : ℕ} {fs : List Fact} {r : List ℕ} →
+      Built sh fs r → u < sh .worlds → sh .worlds < worldsMax → Built (grown sh) (le u (sh .worlds) ∷ fs) (grownLe r u (sh .worlds))
+  new-by : {sh : Sheet} {a u : ℕ} {fs : List Fact} {r : List ℕ} →
+      Built sh fs r → a < sh .principals → u < sh .worlds → sh .worlds < worldsMax →
+      Built (grown sh) (by a u (sh .worlds) ∷ fs) (grownBy r a u (sh .worlds))
+  new-note : {sh : Sheet} {m a b : ℕ} {fs : List Fact} {r : List ℕ} →
+      Built sh fs r → sh .worlds ≡ suc m → a < sh .principals → b < sh .principals → Built sh (sf m a b ∷ fs) (noted r m a b)
+  return : {sh : Sheet} {m : ℕ} {fs : List Fact} {r s : List ℕ} →
+      Built sh fs r → sh .worlds ≡ suc m → Branch m r s → Built sh fs (putSf s m (sfRows r m))
 
 branch-agree : {m : ℕ} {r s : List ℕ} → Branch m r s → Agree (suc m) r s
 branch-agree {m} {r} begin = agree-self (suc m) r
@@ -47,22 +48,21 @@ branch-agree {m} (more-note {s} n a b c h) =
 branch-agree {m} (more-back {s} n t b h) =
     let l : suc m ≤ suc m = omega arith in agree-then l (branch-agree b) (agree-put (suc m) n s t (omega arith))
 
-module _ {k : ℕ} (few : k ≤ principalsMax) where
-  pub built-kept : {n : ℕ} {fs : List Fact} {r : List ℕ} → Built k n fs r → Kept n k fs r
-  built-kept root = kept-root k few
-  built-kept (new-le b h g) = kept-le (built-kept b) h g
-  built-kept (new-by b w h g) = kept-by (built-kept b) w h g
-  built-kept (new-note b g h) = kept-note (built-kept b) g h
-  built-kept (return b s) = kept-back (built-kept b) (branch-agree s)
+pub built-kept : {sh : Sheet} {fs : List Fact} {r : List ℕ} → Built sh fs r → Kept sh fs r
+built-kept (root {sh} alone few) = kept-root sh alone few
+built-kept (new-le b h g) = kept-le (built-kept b) h g
+built-kept (new-by b w h g) = kept-by (built-kept b) w h g
+built-kept (new-note b newest g h) = kept-note (built-kept b) newest g h
+built-kept (return b newest s) = kept-back (built-kept b) newest (branch-agree s)
 
-  pub built-exact : {n : ℕ} {fs : List Fact} {r : List ℕ} → Built k n fs r →
-      (f : Fact) → Aimed n k f → (told r f ≡ true) ↔ Closed n k (Among fs) f
-  built-exact b f h = (built-kept b .right f h, built-kept b .whole f)
+pub built-exact : {sh : Sheet} {fs : List Fact} {r : List ℕ} → Built sh fs r →
+    (f : Fact) → Aimed sh f → (told r f ≡ true) ↔ Closed sh (Among fs) f
+built-exact b f h = (built-kept b .right f h, built-kept b .whole f)
 
-  pub gone : {m : ℕ} {fs : List Fact} {r s : List ℕ} → Built k (suc m) fs r → Branch m r s →
-      (f : Fact) → Aimed (suc m) k f → (Closed (suc m) k (Among fs) f → ⊥) → told (putSf s m (sfRows r m)) f ≡ false
-  gone {m} {r = r} {s = s} b c f h none = go (told (putSf s m (sfRows r m)) f) refl
-    where
-      go : (t : Bool) → told (putSf s m (sfRows r m)) f ≡ t → t ≡ false
-      go false e = refl
-      go true e = absurd (none (built-exact (return b c) f h .0 e))
+pub gone : {sh : Sheet} {m : ℕ} {fs : List Fact} {r s : List ℕ} → Built sh fs r → sh .worlds ≡ suc m → Branch m r s →
+    (f : Fact) → Aimed sh f → (Closed sh (Among fs) f → ⊥) → told (putSf s m (sfRows r m)) f ≡ false
+gone {m} {r = r} {s = s} b newest c f h none = go (told (putSf s m (sfRows r m)) f) refl
+  where
+    go : (t : Bool) → told (putSf s m (sfRows r m)) f ≡ t → t ≡ false
+    go false e = refl
+    go true e = absurd (none (built-exact (return b newest c) f h .0 e))

@@ -5,7 +5,7 @@ use mathlib.Core.Path.{_≡_, refl, sym, _∙_}
 use mathlib.Core.List.{List, _∷_}
 use native.Mathlib.Omega.{arith}
 use lib.ListN.{getD}
-use Rattle.scope.specs.Logic.Facts.{Fact, le, by, sf, Closed, given, rule1, rule2, rule3, rule7, rule8, Among, here, closed}
+use Rattle.scope.specs.Logic.Facts.{Fact, le, by, sf, Sheet, grown, Closed, given, rule1, rule2, rule3, rule7, rule8, Among, here, closed}
 use Rattle.facts.specs.Rows.{worldsMax, principalsMax, leAt, upAt, byAt, bitOf, told, sfRows, speaksIn, leadRow, unseenRow, seenRow, newWorld, grownLe, grownBy}
 use Rattle.facts.specs.Fill.{fill}
 use Rattle.facts.specs.Bits.{told-none, told-when, when-told}
@@ -15,12 +15,12 @@ use Rattle.facts.specs.Closing.{way-sf, way-by, way-more, less, sees}
 use Rattle.facts.specs.NewKept.{closed-more, kept-new}
 
 -- A new world behind u by u ≤ n: what is ≤ u is ≤ n, and no S fact leads to n.
-pub kept-le : {n k u : ℕ} {fs : List Fact} {r : List ℕ} →
-    Kept n k fs r → u < n → n < worldsMax → Kept (suc n) k (le u n ∷ fs) (grownLe r u n)
+pub kept-le : {sh : Sheet} {u : ℕ} {fs : List Fact} {r : List ℕ} →
+    Kept sh fs r → u < sh .worlds → sh .worlds < worldsMax → Kept (grown sh) (le u (sh .worlds) ∷ fs) (grownLe r u (sh .worlds))
 unfolding grownLe told
-kept-le {n} {k} {u} {fs} {r} K inside small =
-    kept-new {Less = λ x. Closed n k (Among fs) (le x u)} {Sees = λ a x. ⊥} K inside small
-    (new-rows r u n (getD r (leAt u) 0) (leadRow r u) (unseenRow r u) (K .size) small)
+kept-le {sh} {u} {fs} {r} K inside small =
+    kept-new {Less = λ x. Closed sh (Among fs) (le x u)} {Sees = λ a x. ⊥} K inside small
+    (new-rows r u (sh .worlds) (getD r (leAt u) 0) (leadRow r u) (unseenRow r u) (K .size) small)
     (record {
       leads = record {
         less-way = λ x p. up-le p (stop inside);
@@ -43,24 +43,25 @@ kept-le {n} {k} {u} {fs} {r} K inside small =
       sees-right = λ a x h p. told-none worldsMax x p;
     })
   where
-    last : n < suc n
+    last : sh .worlds < suc (sh .worlds)
     last = omega arith
 
-    edge : Closed (suc n) k (Among (le u n ∷ fs)) (le u n)
+    edge : Closed (grown sh) (Among (le u (sh .worlds) ∷ fs)) (le u (sh .worlds))
     edge = given here
 
 -- A new world behind u by u S_a n: only n ≤ n, and from each world that leads to u each principal with u: c sf a sees n.
-pub kept-by : {n k a u : ℕ} {fs : List Fact} {r : List ℕ} →
-    Kept n k fs r → a < k → u < n → n < worldsMax → Kept (suc n) k (by a u n ∷ fs) (grownBy r a u n)
+pub kept-by : {sh : Sheet} {a u : ℕ} {fs : List Fact} {r : List ℕ} →
+    Kept sh fs r → a < sh .principals → u < sh .worlds → sh .worlds < worldsMax →
+    Kept (grown sh) (by a u (sh .worlds) ∷ fs) (grownBy r a u (sh .worlds))
 unfolding grownBy
-kept-by {n} {k} {a} {u} {fs} {r} K who inside small =
-    kept-new {Less = λ x. ⊥} {Sees = λ c x. Way n (Closed n k (Among fs)) x u × Closed n k (Among fs) (sf u c a)} K inside small
-    (new-rows r u n 0 (getD r (upAt u) 0) (seenRow (sfRows r u) (getD r (upAt u) 0) a) (K .size) small)
+kept-by {sh} {a} {u} {fs} {r} K who inside small =
+    kept-new {Less = λ x. ⊥} {Sees = λ c x. Way sh (Closed sh (Among fs)) x u × Closed sh (Among fs) (sf u c a)} K inside small
+    (new-rows r u (sh .worlds) 0 (getD r (upAt u) 0) (seenRow (sfRows r u) (getD r (upAt u) 0) a) (K .size) small)
     (record {
       leads = record {
         less-way = λ x z. absurd z;
         sees-way = λ c x p. p .0;
-        sees-sf = λ c d x p q. (p .0, rule3 (way-sf (closed n k (Among fs)) (p .0) q) (p .1));
+        sees-sf = λ c d x p q. (p .0, rule3 (way-sf (closed sh (Among fs)) (p .0) q) (p .1));
         le-sees = λ c x y p q. (up-le p (q .0), q .1);
         le-less = λ x y p z. z;
         by-sees = λ c d x y p q. (up-by p (q .0), q .1);
@@ -69,7 +70,7 @@ kept-by {n} {k} {a} {u} {fs} {r} K who inside small =
       given-new = sees refl (stop inside, rule1 inside who);
       given-way = up-by edge (stop last);
       less-closed = λ x z. absurd z;
-      sees-closed = λ c x p. way-by (closed (suc n) k (Among (by a u n ∷ fs))) (more (p .0)) (rule2 edge (closed-more (sf u c a) (p .1)));
+      sees-closed = λ c x p. way-by (closed (grown sh) (Among (by a u (sh .worlds) ∷ fs))) (more (p .0)) (rule2 edge (closed-more (sf u c a) (p .1)));
       less-whole = λ x z. absurd z;
       ways-whole = λ x w. K .ways-whole x u w;
       sees-whole = whole;
@@ -78,29 +79,29 @@ kept-by {n} {k} {a} {u} {fs} {r} K who inside small =
       sees-right = right;
     })
   where
-    last : n < suc n
+    last : sh .worlds < suc (sh .worlds)
     last = omega arith
 
-    edge : Closed (suc n) k (Among (by a u n ∷ fs)) (by a u n)
+    edge : Closed (grown sh) (Among (by a u (sh .worlds) ∷ fs)) (by a u (sh .worlds))
     edge = given here
 
-    more : {x : ℕ} → Way n (Closed n k (Among fs)) x u → Way (suc n) (Closed (suc n) k (Among (by a u n ∷ fs))) x u
-    more w = let h : n ≤ suc n = omega arith in way-more h (λ g c. closed-more g c) w
+    more : {x : ℕ} → Way sh (Closed sh (Among fs)) x u → Way (grown sh) (Closed (grown sh) (Among (by a u (sh .worlds) ∷ fs))) x u
+    more w = let h : sh .worlds ≤ suc (sh .worlds) = omega arith in way-more h (λ g c. closed-more g c) w
 
-    speaks : (c : ℕ) → c < k → speaksIn (sfRows r u) c a ≡ told r (sf u c a)
+    speaks : (c : ℕ) → c < sh .principals → speaksIn (sfRows r u) c a ≡ told r (sf u c a)
     speaks c h = saved-told r u c a (omega (arith, K .principals))
 
     row : ℕ → ℕ
     row = seenRow (sfRows r u) (getD r (upAt u) 0) a
 
-    whole : (c x : ℕ) → Way n (Closed n k (Among fs)) x u × Closed n k (Among fs) (sf u c a) → (c < k) × (bitOf (row c) x ≡ true)
+    whole : (c x : ℕ) → Way sh (Closed sh (Among fs)) x u × Closed sh (Among fs) (sf u c a) → (c < sh .principals) × (bitOf (row c) x ≡ true)
     whole c x p =
-        let h : (u < n) × (c < k) × (a < k) = proper (K .made) (p .1) in (
+        let h : (u < sh .worlds) × (c < sh .principals) × (a < sh .principals) = proper (K .made) (p .1) in (
           h .1,
           when-told worldsMax (speaksIn (sfRows r u) c a) (getD r (upAt u) 0) x (speaks c (h .1) ∙ K .whole (sf u c a) (p .1)) (K .ways-whole x u (p .0)),
         )
 
-    right : (c x : ℕ) → c < k → bitOf (row c) x ≡ true → Way n (Closed n k (Among fs)) x u × Closed n k (Among fs) (sf u c a)
+    right : (c x : ℕ) → c < sh .principals → bitOf (row c) x ≡ true → Way sh (Closed sh (Among fs)) x u × Closed sh (Among fs) (sf u c a)
     right c x h p =
         let t = told-when worldsMax (speaksIn (sfRows r u) c a) (getD r (upAt u) 0) x p in
         (K .ways-right x u inside (t .1), K .right (sf u c a) (inside, h, who) (sym (speaks c h) ∙ t .0))

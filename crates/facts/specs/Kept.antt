@@ -9,46 +9,46 @@ use native.Mathlib.Omega.{arith}
 use native.Mathlib.Nat.{zero-add}
 use lib.ListN.{length, getD, replicate, length-replicate}
 use borrow.Author.Tests.{lt-ltb}
-use Rattle.scope.specs.Logic.Facts.{Fact, le, by, sf, Closed, Among, least}
+use Rattle.scope.specs.Logic.Facts.{Fact, le, by, sf, Sheet, Closed, Among, least}
 use Rattle.facts.specs.Fill.{fill, length-fill, fill-before, fill-at, below-or-past}
 use Rattle.facts.specs.Rows.{worldsMax, principalsMax, rowsEach, rowsMax, leAt, upAt, byAt, sfAt, bitOf, byRow, sfRow, told, sfRows, backRow, putSf, speaksIn}
 
--- What each fact of n worlds and k principals is: its numbers are among theirs, and it leads from a world to a newer one.
-abbrev pub Proper : ℕ → ℕ → Fact → Type 0
-Proper n k (le u v) = (u ≤ v) × (v < n)
-Proper n k (by a u v) = (a < k) × (u < v) × (v < n)
-Proper n k (sf u a b) = (u < n) × (a < k) × (b < k)
+-- What each fact of a sheet's worlds and principals is: its numbers are among theirs, and it leads from a world to a newer one.
+abbrev pub Proper : Sheet → Fact → Type 0
+Proper sh (le u v) = (u ≤ v) × (v < sh .worlds)
+Proper sh (by a u v) = (a < sh .principals) × (u < v) × (v < sh .worlds)
+Proper sh (sf u a b) = (u < sh .worlds) × (a < sh .principals) × (b < sh .principals)
 
--- A fact about a world below n and principals below k, wherever it comes from.
-abbrev pub Aimed : ℕ → ℕ → Fact → Type 0
-Aimed n k (le u v) = v < n
-Aimed n k (by a u v) = (a < k) × (v < n)
-Aimed n k (sf u a b) = (u < n) × (a < k) × (b < k)
+-- A fact about one of the worlds and principals, wherever it comes from.
+abbrev pub Aimed : Sheet → Fact → Type 0
+Aimed sh (le u v) = v < sh .worlds
+Aimed sh (by a u v) = (a < sh .principals) × (v < sh .worlds)
+Aimed sh (sf u a b) = (u < sh .worlds) × (a < sh .principals) × (b < sh .principals)
 
 -- A way of ≤ and S facts from world to world.
-pub data Way (n : ℕ) (H : Fact → Type 0) : ℕ → ℕ → Type 0 where
-  stop : {x : ℕ} → x < n → Way n H x x
-  up-le : {x y z : ℕ} → H (le x y) → Way n H y z → Way n H x z
-  up-by : {a x y z : ℕ} → H (by a x y) → Way n H y z → Way n H x z
+pub data Way (sh : Sheet) (H : Fact → Type 0) : ℕ → ℕ → Type 0 where
+  stop : {x : ℕ} → x < sh .worlds → Way sh H x x
+  up-le : {x y z : ℕ} → H (le x y) → Way sh H y z → Way sh H x z
+  up-by : {a x y z : ℕ} → H (by a x y) → Way sh H y z → Way sh H x z
 
--- The rows hold exactly the facts that follow from fs, for n worlds and k principals.
-pub record Kept (n k : ℕ) (fs : List Fact) (r : List ℕ) : Type 0 where
-  pub rooted : 0 < n
-  pub worlds : n ≤ worldsMax
-  pub principals : k ≤ principalsMax
+-- The rows hold exactly the facts that follow from fs.
+pub record Kept (sh : Sheet) (fs : List Fact) (r : List ℕ) : Type 0 where
+  pub rooted : 0 < sh .worlds
+  pub worlds : sh .worlds ≤ worldsMax
+  pub principals : sh .principals ≤ principalsMax
   pub size : length r ≡ rowsMax
-  pub made : (f : Fact) → Among fs f → Proper n k f
-  pub right : (f : Fact) → Aimed n k f → told r f ≡ true → Closed n k (Among fs) f
-  pub whole : (f : Fact) → Closed n k (Among fs) f → told r f ≡ true
+  pub made : (f : Fact) → Among fs f → Proper sh f
+  pub right : (f : Fact) → Aimed sh f → told r f ≡ true → Closed sh (Among fs) f
+  pub whole : (f : Fact) → Closed sh (Among fs) f → told r f ≡ true
   -- the row of ancestors, which the next world leans on
-  pub ways-right : (u v : ℕ) → v < n → bitOf (getD r (upAt v) 0) u ≡ true → Way n (Closed n k (Among fs)) u v
-  pub ways-whole : (u v : ℕ) → Way n (Closed n k (Among fs)) u v → bitOf (getD r (upAt v) 0) u ≡ true
+  pub ways-right : (u v : ℕ) → v < sh .worlds → bitOf (getD r (upAt v) 0) u ≡ true → Way sh (Closed sh (Among fs)) u v
+  pub ways-whole : (u v : ℕ) → Way sh (Closed sh (Among fs)) u v → bitOf (getD r (upAt v) 0) u ≡ true
 
 -- What follows from proper facts is proper.
-pub proper : {n k : ℕ} {base : Fact → Type 0} {f : Fact} →
-    ((g : Fact) → base g → Proper n k g) → Closed n k base f → Proper n k f
-proper {n} {k} b c =
-    least {H = Proper n k}
+pub proper : {sh : Sheet} {base : Fact → Type 0} {f : Fact} →
+    ((g : Fact) → base g → Proper sh g) → Closed sh base f → Proper sh f
+proper {sh} b c =
+    least {H = Proper sh}
     (record {
       rule1 = λ u a p q. (p, q, q);
       rule2 = λ u v a b p q. (q .1, p .1, p .2);
@@ -63,32 +63,32 @@ proper {n} {k} b c =
     b c
 
 -- A proper fact is one about those worlds and principals.
-pub aimed : (n k : ℕ) (f : Fact) → Proper n k f → Aimed n k f
-aimed n k (le u v) p = p .1
-aimed n k (by a u v) p = (p .0, p .2)
-aimed n k (sf u a b) p = p
+pub aimed : (sh : Sheet) (f : Fact) → Proper sh f → Aimed sh f
+aimed sh (le u v) p = p .1
+aimed sh (by a u v) p = (p .0, p .2)
+aimed sh (sf u a b) p = p
 
 -- A way of proper facts keeps to the worlds.
-pub way-from : {n k : ℕ} {H : Fact → Type 0} {x y : ℕ} → ((g : Fact) → H g → Proper n k g) → Way n H x y → x < n
+pub way-from : {sh : Sheet} {H : Fact → Type 0} {x y : ℕ} → ((g : Fact) → H g → Proper sh g) → Way sh H x y → x < sh .worlds
 way-from b (stop h) = h
 way-from b (up-le {x} {y} p w) = let q : (x ≤ y) × (y < _) = b (le x y) p in omega arith
 way-from b (up-by {a} {x} {y} p w) = let q : (a < _) × (x < y) × (y < _) = b (by a x y) p in omega arith
 
-pub way-to : {n : ℕ} {H : Fact → Type 0} {x y : ℕ} → Way n H x y → y < n
+pub way-to : {sh : Sheet} {H : Fact → Type 0} {x y : ℕ} → Way sh H x y → y < sh .worlds
 way-to (stop h) = h
 way-to (up-le p w) = way-to w
 way-to (up-by p w) = way-to w
 
 -- Each question's answer is true exactly if the fact follows.
-module _ {n k : ℕ} {fs : List Fact} {r : List ℕ} (K : Kept n k fs r) where
-  pub asked-le : (u v : ℕ) → v < n → (told r (le u v) ≡ true) ↔ Closed n k (Among fs) (le u v)
+module _ {sh : Sheet} {fs : List Fact} {r : List ℕ} (K : Kept sh fs r) where
+  pub asked-le : (u v : ℕ) → v < sh .worlds → (told r (le u v) ≡ true) ↔ Closed sh (Among fs) (le u v)
   asked-le u v h = (K .right (le u v) h, K .whole (le u v))
 
-  pub asked-by : (a u v : ℕ) → a < k → v < n → (told r (by a u v) ≡ true) ↔ Closed n k (Among fs) (by a u v)
+  pub asked-by : (a u v : ℕ) → a < sh .principals → v < sh .worlds → (told r (by a u v) ≡ true) ↔ Closed sh (Among fs) (by a u v)
   asked-by a u v g h = (K .right (by a u v) (g, h), K .whole (by a u v))
 
-  pub asked-sf : (u a b : ℕ) → u < n → a < k → b < k →
-      (told r (sf u a b) ≡ true) ↔ Closed n k (Among fs) (sf u a b)
+  pub asked-sf : (u a b : ℕ) → u < sh .worlds → a < sh .principals → b < sh .principals →
+      (told r (sf u a b) ≡ true) ↔ Closed sh (Among fs) (sf u a b)
   asked-sf u a b h g l = (K .right (sf u a b) (h, g, l), K .whole (sf u a b))
 
 -- Of a principal's number the test in its row is true.
@@ -106,36 +106,36 @@ unfolding sfRows
 sf-length r m = length-fill (λ c. getD r (sfAt m + c) 0) 0 principalsMax (replicate principalsMax 0)
 
 -- Tables whose rows of the first n worlds are the same tell the same facts about those worlds.
-module _ (n k : ℕ) (r s : List ℕ) (few : k ≤ principalsMax)
-    (same : (i : ℕ) → i < n * rowsEach → getD s i 0 ≡ getD r i 0) where
-  pub told-same : (f : Fact) → Aimed n k f → told s f ≡ told r f
+module _ (sh : Sheet) (r s : List ℕ) (few : sh .principals ≤ principalsMax)
+    (same : (i : ℕ) → i < sh .worlds * rowsEach → getD s i 0 ≡ getD r i 0) where
+  pub told-same : (f : Fact) → Aimed sh f → told s f ≡ told r f
   unfolding told
   told-same (le u v) h = rw (same (leAt v) (omega arith))
   told-same (by a u v) h =
       let small : a < principalsMax = omega arith in
-      let low : byAt v + a < n * rowsEach = omega arith in
+      let low : byAt v + a < sh .worlds * rowsEach = omega arith in
       rw (by-row s v a small, by-row r v a small, same (byAt v + a) low)
   told-same (sf u a b) h =
       let small : a < principalsMax = omega arith in
-      let low : sfAt u + a < n * rowsEach = omega arith in
+      let low : sfAt u + a < sh .worlds * rowsEach = omega arith in
       rw (sf-row s u a small, sf-row r u a small, same (sfAt u + a) low)
 
 -- and so keep the same facts.
-pub kept-same : {n k : ℕ} {fs : List Fact} {r s : List ℕ} → Kept n k fs r → length s ≡ length r →
-    ((i : ℕ) → i < n * rowsEach → getD s i 0 ≡ getD r i 0) → Kept n k fs s
-kept-same {n} {k} {fs} {r} {s} K l same =
+pub kept-same : {sh : Sheet} {fs : List Fact} {r s : List ℕ} → Kept sh fs r → length s ≡ length r →
+    ((i : ℕ) → i < sh .worlds * rowsEach → getD s i 0 ≡ getD r i 0) → Kept sh fs s
+kept-same {sh} {fs} {r} {s} K l same =
     record {
       rooted = K .rooted;
       worlds = K .worlds;
       principals = K .principals;
       size = l ∙ K .size;
       made = K .made;
-      right = λ f h p. K .right f h (sym (told-same n k r s (K .principals) same f h) ∙ p);
+      right = λ f h p. K .right f h (sym (told-same sh r s (K .principals) same f h) ∙ p);
       whole = λ f c.
-          told-same n k r s (K .principals) same f (aimed n k f (proper (K .made) c)) ∙ K .whole f c;
+          told-same sh r s (K .principals) same f (aimed sh f (proper (K .made) c)) ∙ K .whole f c;
       ways-right = λ u v h p. K .ways-right u v h (rw (same (upAt v) (omega arith)) at p);
       ways-whole = λ u v w.
-          let h : v < n = way-to w in
+          let h : v < sh .worlds = way-to w in
           rw (same (upAt v) (omega arith)) (K .ways-whole u v w);
     }
 
@@ -185,10 +185,10 @@ unfolding told
 saved-told r m c b h = rw (saved-row r m c h, sf-row r m c h)
 
 -- The saved rows of sf of the newest world, put back into a table that agrees, make the kept facts again.
-pub kept-back : {m k : ℕ} {fs : List Fact} {r s : List ℕ} →
-    Kept (suc m) k fs r → Agree (suc m) r s → Kept (suc m) k fs (putSf s m (sfRows r m))
+pub kept-back : {sh : Sheet} {m : ℕ} {fs : List Fact} {r s : List ℕ} →
+    Kept sh fs r → sh .worlds ≡ suc m → Agree (suc m) r s → Kept sh fs (putSf s m (sfRows r m))
 unfolding putSf
-kept-back {m} {k} {fs} {r} {s} K a = kept-same K (length-fill back (sfAt m) principalsMax s ∙ a .same-length) same
+kept-back {sh} {m} {fs} {r} {s} K newest a = kept-same K (length-fill back (sfAt m) principalsMax s ∙ a .same-length) same
   where
     back : ℕ → ℕ
     back = backRow s m (sfRows r m)
@@ -199,7 +199,7 @@ kept-back {m} {k} {fs} {r} {s} K a = kept-same K (length-fill back (sfAt m) prin
     within : (c : ℕ) → c < principalsMax → getD (fill back (sfAt m) principalsMax s) (sfAt m + c) 0 ≡ getD r (sfAt m + c) 0
     within c h = fill-at back (sfAt m) principalsMax s c h room ∙ saved-row r m c h
 
-    same : (i : ℕ) → i < suc m * rowsEach → getD (fill back (sfAt m) principalsMax s) i 0 ≡ getD r i 0
+    same : (i : ℕ) → i < sh .worlds * rowsEach → getD (fill back (sfAt m) principalsMax s) i 0 ≡ getD r i 0
     same i h =
         ⊎-elim (λ low. fill-before back (sfAt m) principalsMax s i low ∙ a .same-rows i (omega arith))
         (λ past.

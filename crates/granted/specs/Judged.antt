@@ -36,7 +36,7 @@ sf-named n = elim n [ ]
 hit-named : {o : Obligation} → Unnamed o Hit → ⊥
 hit-named n = elim n [ ]
 
-to-named : {s : Sequent} {p : Phase} {v : ℕ} → v < s .worlds → Unnamed (ob s p) (To v) → ⊥
+to-named : {s : Sequent} {p : Phase} {v : ℕ} → v < s .sheet .worlds → Unnamed (ob s p) (To v) → ⊥
 to-named h (no-world i) = omega arith
 
 -- The tests that a step makes, each by its two outcomes.
@@ -45,9 +45,9 @@ unfolding need
 needs P k true m yea nay = yea refl
 needs P k false m yea nay = nay refl
 
-worlds : (P : Onward → Type 0) (s : Sequent) (v : ℕ) (m : Onward) → (v < s .worlds → P m) → (s .worlds ≤ v → P (refuse 8)) →
-    P (need 8 (ltb v (s .worlds)) m)
-worlds P s v m yea nay = needs P 8 (ltb v (s .worlds)) m (λ e. yea (ltb-true v (s .worlds) e)) (λ e. nay (ltb-false v (s .worlds) e))
+worlds : (P : Onward → Type 0) (s : Sequent) (v : ℕ) (m : Onward) → (v < s .sheet .worlds → P m) → (s .sheet .worlds ≤ v → P (refuse 8)) →
+    P (need 8 (ltb v (s .sheet .worlds)) m)
+worlds P s v m yea nay = needs P 8 (ltb v (s .sheet .worlds)) m (λ e. yea (ltb-true v (s .sheet .worlds) e)) (λ e. nay (ltb-false v (s .sheet .worlds) e))
 
 clauses : (P : Onward → Type 0) (l : Option Lab) (m : Lab → Onward) →
     ((d : Lab) → l ≡ some d → isSf (d .form) ≡ false → P (m d)) → (l ≡ none → P (refuse 8)) →
@@ -65,8 +65,8 @@ facts : (P : Onward → Type 0) (s : Sequent) (f : Fact) (m : Onward) → (Has s
 unfolding has
 facts P s f m yea nay =
     needs P 9 (has s f) m
-    (λ e. yea (agree-sound (s .worlds) (s .principals) (s .facts) f e))
-    (λ e. nay (decide-fact (s .worlds) (s .principals) (s .facts) f e))
+    (λ e. yea (agree-sound (s .sheet) (s .facts) f e))
+    (λ e. nay (decide-fact (s .sheet) (s .facts) f e))
 
 same-atom : {s : Sequent} {q u p w : ℕ} {met : List Lab} → q ≡ p → Has s (le u w) →
     Rule (ob s (focus (lab (F.atom q) u) p w met)) Hit (map (λ (g : Lab). ob s (goal g)) met)

@@ -46,7 +46,7 @@ pub data Fits : Obligation → Step → Type 0 where
 
 -- No such world; or the number is no clause: none stands there, or an `sf` line does.
 pub data Unnamed : Obligation → Step → Type 0 where
-  no-world : {s : Sequent} {p : Phase} {v : ℕ} → s .worlds ≤ v → Unnamed (ob s p) (To v)
+  no-world : {s : Sequent} {p : Phase} {v : ℕ} → s .sheet .worlds ≤ v → Unnamed (ob s p) (To v)
   no-clause : {s : Sequent} {p : Phase} {c : ℕ} → getElem? (s .clauses) c ≡ none → Unnamed (ob s p) (Use c)
   sf-line : {s : Sequent} {p : Phase} {c : ℕ} {l : Lab} → getElem? (s .clauses) c ≡ some l → isSf (l .form) ≡ true →
       Unnamed (ob s p) (Use c)

@@ -83,7 +83,7 @@ fitting-onto unfit e = never cc
 
 has-full : (s : Sequent) (f : Fact) → Has s f → has s f ≡ true
 unfolding has
-has-full s f h = agree-full (s .worlds) (s .principals) (s .facts) f h
+has-full s f h = agree-full (s .sheet) (s .facts) f h
 
 rule-to : {o : Obligation} {x : Step} {os : List Obligation} → Rule o x os → stepOn x (o .sequent) (o .phase) ≡ onto os
 unfolding stepOn
@@ -98,9 +98,9 @@ rule-to (by-use {s} {p} {w} {c} {l} e n) = clause-met (getElem? (s .clauses) c) 
 rule-to by-left = refl
 rule-to by-right = refl
 rule-to (by-to-imp {s} {f} {g} {u} {v} i h) =
-    need-met 8 (ltb v (s .worlds)) _ (lt-ltb v (s .worlds) i) ∙ need-met 9 (has s (le u v)) _ (has-full s (le u v) h)
+    need-met 8 (ltb v (s .sheet .worlds)) _ (lt-ltb v (s .sheet .worlds) i) ∙ need-met 9 (has s (le u v)) _ (has-full s (le u v) h)
 rule-to (by-to-says {s} {a} {f} {u} {v} i h) =
-    need-met 8 (ltb v (s .worlds)) _ (lt-ltb v (s .worlds) i) ∙ need-met 9 (has s (by a u v)) _ (has-full s (by a u v) h)
+    need-met 8 (ltb v (s .sheet .worlds)) _ (lt-ltb v (s .sheet .worlds) i) ∙ need-met 9 (has s (by a u v)) _ (has-full s (by a u v) h)
 rule-to (by-hit {s} {u} {p} {w} h) =
     need-met 9 (eqb p p) _ (eq-eqb p p refl) ∙ need-met 9 (has s (le u w)) _ (has-full s (le u w) h)
 rule-to (by-push {f} e) = need-met 7 (isPushed f) _ e

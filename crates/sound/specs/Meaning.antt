@@ -57,20 +57,20 @@ module _ (k n : ℕ) (m : Model) where
 
   -- ρ respects a sequent: its facts and its clauses hold.
   pub record Respects (s : Sequent) (ρ : ℕ → ℕ) : Type 0 where
-    pub counted : s .principals ≡ k
+    pub counted : s .sheet .principals ≡ k
     pub inside : (x : ℕ) → ρ x < m .worlds
-    pub facts : All (Holds (s .worlds) ρ) (s .facts)
-    pub clauses : All (λ (l : Lab). AtWorlds (s .worlds) l × Meets ρ l) (s .clauses)
+    pub facts : All (Holds (s .sheet .worlds) ρ) (s .facts)
+    pub clauses : All (λ (l : Lab). AtWorlds (s .sheet .worlds) l × Meets ρ l) (s .clauses)
 
   -- A goal is met. With chunks: where they hold, the goal is met. In focus: the subgoals are met, and where the clause holds, so does
   -- the atom aimed at.
   abbrev pub ValidIn : Sequent → Phase → Type 0
-  ValidIn s (goal g) = (ρ : ℕ → ℕ) → Respects s ρ → AtWorlds (s .worlds) g → Meets ρ g
+  ValidIn s (goal g) = (ρ : ℕ → ℕ) → Respects s ρ → AtWorlds (s .sheet .worlds) g → Meets ρ g
   ValidIn s (chunks c cs g) =
-      (ρ : ℕ → ℕ) → Respects s ρ → AtWorlds (s .worlds) g →
+      (ρ : ℕ → ℕ) → Respects s ρ → AtWorlds (s .sheet .worlds) g →
       All (λ (f : Form). Over k n f × Sat m (ρ (g .at)) f) (c ∷ cs) → Meets ρ g
   ValidIn s (focus d p w met) =
-      (ρ : ℕ → ℕ) → Respects s ρ → AtWorlds (s .worlds) d → AtWorlds (s .worlds) (lab (F.atom p) w) → All (AtWorlds (s .worlds)) met →
+      (ρ : ℕ → ℕ) → Respects s ρ → AtWorlds (s .sheet .worlds) d → AtWorlds (s .sheet .worlds) (lab (F.atom p) w) → All (AtWorlds (s .sheet .worlds)) met →
       All (Meets ρ) met × (Meets ρ d → Meets ρ (lab (F.atom p) w))
 
   abbrev pub Valid : Obligation → Type 0
@@ -92,39 +92,39 @@ module _ (k n : ℕ) (m : Model) where
       ((omega arith, h .0 .1), rw (put-other ρ w v (l .at) i) (h .1))
 
   pub with-world : (s : Sequent) (ρ : ℕ → ℕ) (v : ℕ) (f : Fact) → Respects s ρ → v < m .worlds →
-      Holds (suc (s .worlds)) (put ρ (s .worlds) v) f → Respects (withWorld s f) (put ρ (s .worlds) v)
+      Holds (suc (s .sheet .worlds)) (put ρ (s .sheet .worlds) v) f → Respects (withWorld s f) (put ρ (s .sheet .worlds) v)
   with-world s ρ v f r i h =
       record {
         counted = r .counted;
-        inside = put-inside (m .worlds) ρ (s .worlds) v (r .inside) i;
+        inside = put-inside (m .worlds) ρ (s .sheet .worlds) v (r .inside) i;
         facts =
-            (h, all-turn (Holds (s .worlds) ρ) (Holds (suc (s .worlds)) (put ρ (s .worlds) v)) (older-fact (s .worlds) ρ v) (s .facts) (r .facts));
+            (h, all-turn (Holds (s .sheet .worlds) ρ) (Holds (suc (s .sheet .worlds)) (put ρ (s .sheet .worlds) v)) (older-fact (s .sheet .worlds) ρ v) (s .facts) (r .facts));
         clauses =
-            all-turn (λ l. AtWorlds (s .worlds) l × Meets ρ l) (λ l. AtWorlds (suc (s .worlds)) l × Meets (put ρ (s .worlds) v) l)
-            (older-clause (s .worlds) ρ v)
+            all-turn (λ l. AtWorlds (s .sheet .worlds) l × Meets ρ l) (λ l. AtWorlds (suc (s .sheet .worlds)) l × Meets (put ρ (s .sheet .worlds) v) l)
+            (older-clause (s .sheet .worlds) ρ v)
             (s .clauses)
             (r .clauses);
       }
 
-  pub with-fact : (s : Sequent) (ρ : ℕ → ℕ) (f : Fact) → Respects s ρ → Holds (s .worlds) ρ f → Respects (withFact s f) ρ
+  pub with-fact : (s : Sequent) (ρ : ℕ → ℕ) (f : Fact) → Respects s ρ → Holds (s .sheet .worlds) ρ f → Respects (withFact s f) ρ
   with-fact s ρ f r h = record { counted = r .counted; inside = r .inside; facts = (h, r .facts); clauses = r .clauses }
 
-  pub with-clause : (s : Sequent) (ρ : ℕ → ℕ) (l : Lab) → Respects s ρ → AtWorlds (s .worlds) l → Meets ρ l → Respects (withClause s l) ρ
+  pub with-clause : (s : Sequent) (ρ : ℕ → ℕ) (l : Lab) → Respects s ρ → AtWorlds (s .sheet .worlds) l → Meets ρ l → Respects (withClause s l) ρ
   with-clause s ρ l r i h =
       record {
         counted = r .counted;
         inside = r .inside;
         facts = r .facts;
-        clauses = all-append (λ l. AtWorlds (s .worlds) l × Meets ρ l) (s .clauses) (l ∷ []) (r .clauses) ((i, h), tt);
+        clauses = all-append (λ l. AtWorlds (s .sheet .worlds) l × Meets ρ l) (s .clauses) (l ∷ []) (r .clauses) ((i, h), tt);
       }
 
   -- The goal behind chunks that hold.
-  pub meets-behind : (s : Sequent) (cs : List Form) (g : Lab) → ValidIn s (behind cs g) → (ρ : ℕ → ℕ) → Respects s ρ → AtWorlds (s .worlds) g →
+  pub meets-behind : (s : Sequent) (cs : List Form) (g : Lab) → ValidIn s (behind cs g) → (ρ : ℕ → ℕ) → Respects s ρ → AtWorlds (s .sheet .worlds) g →
       All (λ (f : Form). Over k n f × Sat m (ρ (g .at)) f) cs → Meets ρ g
   meets-behind s [] g v ρ r i h = v ρ r i
   meets-behind s (c ∷ cs) g v ρ r i h = v ρ r i h
 
   pub meets-met : (s : Sequent) (met : List Lab) → All Valid (map (λ (g : Lab). ob s (goal g)) met) → (ρ : ℕ → ℕ) → Respects s ρ →
-      All (AtWorlds (s .worlds)) met → All (Meets ρ) met
+      All (AtWorlds (s .sheet .worlds)) met → All (Meets ρ) met
   meets-met s [] v ρ r i = tt
   meets-met s (g ∷ met) v ρ r i = (v .0 ρ r (i .0), meets-met s met (v .1) ρ r (i .1))

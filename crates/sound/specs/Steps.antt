@@ -37,7 +37,7 @@ module _ (k n : ℕ) (m : Model) (fr : Frame k n m) where
   mono (F.sf a b) o x y i j e h = fr .mon-sf a b x y (o .0) (o .1) i j (M.by-le j e M.same) h
 
   -- The facts that hold are closed under the nine rules.
-  rules-hold : (s : Sequent) (ρ : ℕ → ℕ) → Respects k n m s ρ → Rules (s .worlds) (s .principals) (Holds k n m (s .worlds) ρ)
+  rules-hold : (s : Sequent) (ρ : ℕ → ℕ) → Respects k n m s ρ → Rules (s .sheet) (Holds k n m (s .sheet .worlds) ρ)
   rules-hold s ρ r =
       record {
         rule1 = λ u a i j. let c = r .counted in let l : a < k = omega arith in (l, l, i, fr .refl-sf a (ρ u) l (r .inside u));
@@ -73,9 +73,9 @@ module _ (k n : ℕ) (m : Model) (fr : Frame k n m) where
             (t .0, h .1, t .2, again c f);
       }
 
-  facts-hold : (s : Sequent) (ρ : ℕ → ℕ) (f : Fact) → Respects k n m s ρ → Has s f → Holds k n m (s .worlds) ρ f
+  facts-hold : (s : Sequent) (ρ : ℕ → ℕ) (f : Fact) → Respects k n m s ρ → Has s f → Holds k n m (s .sheet .worlds) ρ f
   facts-hold s ρ f r h =
-      least (rules-hold s ρ r) (λ g a. all-among (Holds k n m (s .worlds) ρ) a (r .facts)) h
+      least (rules-hold s ρ r) (λ g a. all-among (Holds k n m (s .sheet .worlds) ρ) a (r .facts)) h
 
   -- Each rule hands the validity of what it leaves up to what it met.
   rule-sound : {o : Obligation} {x : Step} {os : List Obligation} → Rule o x os → All (Valid k n m) os → Valid k n m o
@@ -85,31 +85,31 @@ module _ (k n : ℕ) (m : Model) (fr : Frame k n m) where
   rule-sound D.by-or2 v = λ ρ r t. inr (v .0 ρ r (t .0, t .1 .1))
   rule-sound (D.by-imp {s} {f} {g} {u}) v =
       λ ρ r t x i e h.
-      let d : put ρ (s .worlds) x (s .worlds) ≡ x = put-same ρ (s .worlds) x in
-      let new : Respects k n m (withWorld s (le u (s .worlds))) (put ρ (s .worlds) x) =
-      with-world k n m s ρ x (le u (s .worlds)) r i (omega arith, omega arith, rw (put-other ρ (s .worlds) x u (t .0), d) e) in
-      rw d at (v .0 (put ρ (s .worlds) x) new (omega arith, t .1 .1) ((t .1 .0, rw d h), tt))
+      let d : put ρ (s .sheet .worlds) x (s .sheet .worlds) ≡ x = put-same ρ (s .sheet .worlds) x in
+      let new : Respects k n m (withWorld s (le u (s .sheet .worlds))) (put ρ (s .sheet .worlds) x) =
+      with-world k n m s ρ x (le u (s .sheet .worlds)) r i (omega arith, omega arith, rw (put-other ρ (s .sheet .worlds) x u (t .0), d) e) in
+      rw d at (v .0 (put ρ (s .sheet .worlds) x) new (omega arith, t .1 .1) ((t .1 .0, rw d h), tt))
   rule-sound (D.by-says {s} {a} {f} {u}) v =
       λ ρ r t x i e.
-      let d : put ρ (s .worlds) x (s .worlds) ≡ x = put-same ρ (s .worlds) x in
-      let new : Respects k n m (withWorld s (by a u (s .worlds))) (put ρ (s .worlds) x) =
-      with-world k n m s ρ x (by a u (s .worlds)) r i (
+      let d : put ρ (s .sheet .worlds) x (s .sheet .worlds) ≡ x = put-same ρ (s .sheet .worlds) x in
+      let new : Respects k n m (withWorld s (by a u (s .sheet .worlds))) (put ρ (s .sheet .worlds) x) =
+      with-world k n m s ρ x (by a u (s .sheet .worlds)) r i (
         t .1 .0,
         omega arith,
         omega arith,
         record {
           mid = x;
           inside = i;
-          step = rw (put-other ρ (s .worlds) x u (t .0)) e;
+          step = rw (put-other ρ (s .sheet .worlds) x u (t .0)) e;
           below = rw d (fr .refl-le x i);
         },
       ) in
-      rw d at (v .0 (put ρ (s .worlds) x) new (omega arith, t .1 .1))
+      rw d at (v .0 (put ρ (s .sheet .worlds) x) new (omega arith, t .1 .1))
   rule-sound D.by-top v = λ ρ r t. tt
   rule-sound (D.by-sf {s} {a} {b} {u} h) v = λ ρ r t. facts-hold s ρ (sf u a b) r h .3
   rule-sound (D.by-use {s} {c} {l} e q) v =
       λ ρ r t.
-      let h = all-place (λ l. AtWorlds k n m (s .worlds) l × Meets k n m ρ l) (s .clauses) c l e (r .clauses) in
+      let h = all-place (λ l. AtWorlds k n m (s .sheet .worlds) l × Meets k n m ρ l) (s .clauses) c l e (r .clauses) in
       v .0 ρ r (h .0) t tt .1 (h .1)
   rule-sound D.by-left v =
       λ ρ r d t met. let b = v .0 ρ r (d .0, d .1 .0) t met in (b .0, λ h. b .1 (h .0))

@@ -133,8 +133,8 @@ module _ {used : ℕ → Type 0} where
   step-alike Right xs s ds p a c = in-focus p λ f u q w met. on-and f λ g h. go (twin a T.none)
   step-alike (To v) xs s ds p a c =
       in-focus p λ f u q w met.
-      on-imp-says f (λ g h. needs 8 (ltb v (s .worlds)) (needs 9 (has s (le u v)) (go (twin a T.none))))
-      (λ b g. needs 8 (ltb v (s .worlds)) (needs 9 (has s (by b u v)) (go (twin a T.none))))
+      on-imp-says f (λ g h. needs 8 (ltb v (s .sheet .worlds)) (needs 9 (has s (le u v)) (go (twin a T.none))))
+      (λ b g. needs 8 (ltb v (s .sheet .worlds)) (needs 9 (has s (by b u v)) (go (twin a T.none))))
   step-alike Hit xs s ds p a c =
       in-focus p λ f u q w met.
       on-atom f λ r. needs 9 (eqb r q) (needs 9 (has s (le u w)) (go (twins-met s ds a met)))

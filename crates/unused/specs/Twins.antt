@@ -15,7 +15,7 @@ pub record Shared (used : ℕ → Type 0) (cs ds : List Lab) : Type 0 where
   pub at : (i : ℕ) → used i → getElem? cs i ≡ getElem? ds i
 
 abbrev pub withClauses : Sequent → List Lab → Sequent
-withClauses s ds = record { principals = s .principals; worlds = s .worlds; facts = s .facts; clauses = ds }
+withClauses s ds = record { sheet = s .sheet; facts = s .facts; clauses = ds }
 
 -- Obligations one by one in the same phase, with the same worlds and facts.
 pub data Twins (used : ℕ → Type 0) : List Obligation → List Obligation → Type 0 where

@@ -50,11 +50,11 @@ stands t p no-step = begins t p
 stands t p (one-step {i} {m} {new} a e f) = matched (stepped (stands t p a) (stepIn (t .stepTable) i)) m new e f
 
 told-open : {T : Reading} {s : State} {o : Obligation} {waiting : List Obligation} → Related T s (o ∷ waiting) → (f : Fact) →
-    Aimed (o .sequent .worlds) (o .sequent .principals) f → told (s .rows) f ≡ has (o .sequent) f
+    Aimed (o .sequent .sheet) f → told (s .rows) f ≡ has (o .sequent) f
 told-open {T} (now-open {ls} frame down rests waits) f aimed = told-has T ls f (frame .kept) aimed
 
 -- `has` closes afresh, and every step of the walk that asks for a fact asks `has`.
 pub kept-afresh : (t : Lent) → checked t ≡ answer 0 0 → {i : ℕ} {s : State} {o : Obligation} {waiting : List Obligation} →
-    After t i s (o ∷ waiting) → (f : Fact) → Aimed (o .sequent .worlds) (o .sequent .principals) f →
+    After t i s (o ∷ waiting) → (f : Fact) → Aimed (o .sequent .sheet) f →
     told (s .rows) f ≡ has (o .sequent) f
 kept-afresh t c a = told-open (stands t (unrefused-passed t (checked-fine t c .unrefused)) a)

@@ -21,7 +21,7 @@ use Rattle.machine.specs.Tables.{block}
 use Rattle.machine.specs.Machine.{lineNoted, linesNoted, linesPut, first, begun}
 use Rattle.walks.specs.Trees.{byMeans, Reading}
 use Rattle.walks.specs.Blocks.{block-length}
-use Rattle.walks.specs.Related.{labs, entryAt, downFrom, at-goal, at-rest, Clauses, none-waits, metIn, Related, now-open}
+use Rattle.walks.specs.Related.{labs, sheetOf, entryAt, downFrom, at-goal, at-rest, Clauses, none-waits, metIn, Related, now-open}
 use Rattle.walks.specs.Rooms.{labs-length}
 use Rattle.walks.specs.Fitting.{labs-at}
 
@@ -102,17 +102,17 @@ module _ (T : Reading) (lines nums : List ℕ) (count : ℕ) (long : length nums
           ap (λ (u : ℕ). lab (T .tree (getD cl i 0)) u) (sym (getD-replicate 257 i 0 0 within)) ∙ sym right
 
   -- and an `sf` line is a fact there.
-  line-kept : (f : ℕ) → f < T .formulas → (fs : List Fact) (rows : List ℕ) → Kept 1 (T .principals) fs rows →
-      Kept 1 (T .principals) (factOf (T .tree f) fs) (lineNoted (T .table) f rows)
+  line-kept : (f : ℕ) → f < T .formulas → (fs : List Fact) (rows : List ℕ) → Kept (sheetOf T 1) fs rows →
+      Kept (sheetOf T 1) (factOf (T .tree f) fs) (lineNoted (T .table) f rows)
   unfolding lineNoted pick
   line-kept f h fs rows kept =
-      byMeans (λ kind l r t. Kept 1 (T .principals) (factOf t fs) (pick (eqb kind 7) (noted rows 0 l r) rows))
+      byMeans (λ kind l r t. Kept (sheetOf T 1) (factOf t fs) (pick (eqb kind 7) (noted rows 0 l r) rows))
       (λ p r. kept) (λ l r. kept) (λ l r. kept) (λ f g p q. kept) (λ f g p q. kept) (λ f g p q. kept) (λ a g p q. kept)
-      (λ a b p q. kept-note kept p q) (T .means f h)
+      (λ a b p q. kept-note kept refl p q) (T .means f h)
 
   -- They are noted from the last back, so that the facts stand in the lines' order.
-  lines-kept : (i : ℕ) → i ≤ count → (rows : List ℕ) → Kept 1 (T .principals) (rootFacts (drop i policy)) rows →
-      Kept 1 (T .principals) (rootFacts policy) (linesNoted (T .table) lines i rows)
+  lines-kept : (i : ℕ) → i ≤ count → (rows : List ℕ) → Kept (sheetOf T 1) (rootFacts (drop i policy)) rows →
+      Kept (sheetOf T 1) (rootFacts policy) (linesNoted (T .table) lines i rows)
   unfolding linesNoted rootFacts
   lines-kept zero h rows kept = kept
   lines-kept (suc i) h rows kept =
@@ -122,7 +122,7 @@ module _ (T : Reading) (lines nums : List ℕ) (count : ℕ) (long : length nums
       let split : drop i policy ≡ T .tree (getD lines i 0) ∷ drop (suc i) policy =
       drop-cons policy i (T .tree 0) low ∙
       ap (λ (f : Form). f ∷ drop (suc i) policy) this in
-      let now : Kept 1 (T .principals) (rootFacts (drop i policy)) (lineNoted (T .table) (getD lines i 0) rows) =
+      let now : Kept (sheetOf T 1) (rootFacts (drop i policy)) (lineNoted (T .table) (getD lines i 0) rows) =
       rw split (line-kept (getD lines i 0) (known i h) (rootFacts (drop (suc i) policy)) rows kept) in
       lines-kept i (omega arith) (lineNoted (T .table) (getD lines i 0) rows) now
 
@@ -133,7 +133,7 @@ module _ (T : Reading) (lines nums : List ℕ) (count : ℕ) (long : length nums
       let some : 0 < 1 = omega arith in
       let all : drop count policy ≡ [] =
       rw (← (length-map nums (T .tree) ∙ long)) (drop-length policy) in
-      let begins : Kept 1 (T .principals) (rootFacts (drop count policy)) rootRows = rw all (kept-root (T .principals) (T .few)) in
+      let begins : Kept (sheetOf T 1) (rootFacts (drop count policy)) rootRows = rw all (kept-root (sheetOf T 1) refl (T .few)) in
       now-open {ch = block (replicate 4112 0) 0} {sv = block (replicate 4112 0) 0} {n = 0} {m = 0}
       (record {
         stack-size =

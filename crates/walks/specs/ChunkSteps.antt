@@ -83,7 +83,7 @@ module _ {T : Reading} {rows cl ats ch sv : List ℕ} {stack : Stack} {es : List
   means = let last : i < suc i = omega arith in T .means topmost (known .each i last)
 
   -- Without the topmost chunk, in a sequent within the limits.
-  behind-within : (s : Sequent) → s .worlds ≤ mostWorlds → length (s .clauses) ≤ mostClauses → within w (ob s (behind rest aim) ∷ []) ≡ true
+  behind-within : (s : Sequent) → s .sheet .worlds ≤ mostWorlds → length (s .clauses) ≤ mostClauses → within w (ob s (behind rest aim) ∷ []) ≡ true
   behind-within s h g =
       one-within w s (behind rest aim)
       (record { worlds = h; clauses = g; chunks = omega (arith, behind-chunks rest aim, chunks-length (T .tree) i ch) })

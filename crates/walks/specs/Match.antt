@@ -23,7 +23,7 @@ use Rattle.moves.specs.declared.Move as M
 use Rattle.moves.specs.Steps.{pick, pushedKind}
 use Rattle.machine.specs.Machine.{State, moved}
 use Rattle.walks.specs.Trees.{Means, byMeans, Reading}
-use Rattle.walks.specs.Related.{Related, seq}
+use Rattle.walks.specs.Related.{Related, sheetOf, seq}
 
 pub data Match (T : Reading) (s : State) (waiting : List Obligation) : Judged → Onward → Type 0 where
   no-fit : {k : ℕ} → Match T s waiting (No k) (refuse k)
@@ -38,13 +38,13 @@ alike false true f g = g refl
 alike false false f g = refl
 
 -- The rows tell what the computed facts of the sequent say.
-pub told-has : (T : Reading) {n : ℕ} {fs : List Fact} {rows : List ℕ} (ls : List Lab) (f : Fact) → Kept n (T .principals) fs rows →
-    Aimed n (T .principals) f → told rows f ≡ has (seq T n fs ls) f
+pub told-has : (T : Reading) {n : ℕ} {fs : List Fact} {rows : List ℕ} (ls : List Lab) (f : Fact) → Kept (sheetOf T n) fs rows →
+    Aimed (sheetOf T n) f → told rows f ≡ has (seq T n fs ls) f
 unfolding has
 told-has T {n} {fs} {rows} ls f kept aimed =
-    alike (told rows f) (holds n (T .principals) fs f)
-    (λ e. agree-full n (T .principals) fs f (kept .right f aimed e))
-    (λ e. kept .whole f (agree-sound n (T .principals) fs f e))
+    alike (told rows f) (holds (sheetOf T n) fs f)
+    (λ e. agree-full (sheetOf T n) fs f (kept .right f aimed e))
+    (λ e. kept .whole f (agree-sound (sheetOf T n) fs f e))
 
 module _ {T : Reading} {s : State} {waiting : List Obligation} where
   -- The limit is tested last.

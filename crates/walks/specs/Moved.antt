@@ -27,7 +27,7 @@ use Rattle.walks.specs.Trees.{Reading}
 use Rattle.walks.specs.Blocks.{block-length, block-put, put-length, same-self, same-put}
 use Rattle.machine.specs.Turn.{stateOf}
 use Rattle.walks.specs.Related.{Entry, headOf, entry, entryAt, downFrom, Rests, at-goal, at-chunks, Stands, at-rest, Clauses}
-use Rattle.walks.specs.Related.{seq, Waits, none-waits, one-waits, metIn, Frame, Related, all-closed, now-open}
+use Rattle.walks.specs.Related.{sheetOf, seq, Waits, none-waits, one-waits, metIn, Frame, Related, all-closed, now-open}
 use Rattle.walks.specs.Views.{entry-is, head-is, saved-is, entry-under, down-under, under-two}
 use Rattle.walks.specs.Views.{clauses-set, waits-set, waits-rows}
 use Rattle.walks.specs.Chunks.{one-less, Wrote}
@@ -84,7 +84,7 @@ module _ {T : Reading} {rows cl ats ch sv : List ℕ} {stack : Stack} {es : List
       record { lower = headOf ph′ (suc m′) c′; upper = headOf ph′ (suc m′) c′; opened = suc n } →
       chunksAfter mv (chunkCount ph) n (stack .chunks) ≡ l′ → Wrote n (stack .chunks) l′ ch′ →
       ((next : E.Obligation) (kept : List ℕ) → rowsAfter mv now next kept rows ≡ rows′) →
-      Clauses T clNow atsNow c′ ls′ → Kept (suc m′) (T .principals) fs′ rows′ →
+      Clauses T clNow atsNow c′ ls′ → Kept (sheetOf T (suc m′)) fs′ rows′ →
       Stands T (suc m′) ch′ ph′ p′ →
       Waits T rows′ clNow atsNow (suc m′) c′ es (metIn (seq T (suc m′) fs′ ls′) p′ ++ waiting) →
       Related T (moved (stateOf rows stack (suc n) cl ats) mv) (ob (seq T (suc m′) fs′ ls′) p′ ∷ waiting)
@@ -242,7 +242,7 @@ moved-close {T} {rows} {cl} {ats} {ch} {sv} {stack} {n = suc n} {m} {c} {ph} fra
       on-top = entry-under n (omega arith) under ∙ top;
       chunk-size = size;
       clauses = clauses-set c x y fewer clauses;
-      kept = kept-back kept agree;
+      kept = kept-back kept refl agree;
     })
     (down-under n (omega arith) under ∙ rest)
     (at-rest rests) wait)

@@ -29,7 +29,7 @@ use Rattle.facts.specs.Grown.{kept-le, kept-by, agree-le, agree-by}
 use Rattle.facts.specs.Noted.{kept-note, agree-note}
 use Rattle.machine.specs.Turn.{stateOf}
 use Rattle.walks.specs.Related.{Entry, downFrom, chunksOf, Below, Rests, at-goal, at-chunks, Stands, at-rest, in-focus}
-use Rattle.walks.specs.Related.{Clauses, seq, Waits, metIn, Frame, Related}
+use Rattle.walks.specs.Related.{Clauses, sheetOf, seq, Waits, metIn, Frame, Related}
 use Rattle.walks.specs.Views.{chunks-set, below-less, below-more, clauses-set, clauses-pushed, waits-set, waits-rows, waits-wider}
 use Rattle.walks.specs.Chunks.{one-less, wrote-set, wrote-above, wrote-none, wrote-copy, case-above, top-is}
 use Rattle.walks.specs.Moved.{moved-alone, moved-fork, rests-met}
@@ -188,8 +188,8 @@ module _ {T : Reading} {rows cl ats ch sv : List ℕ} {stack : Stack} {es : List
       let at : m ≡ u = omega arith in
       let x : ℕ = topChunk (stack .chunks) n (phase.Chunks goalLab (suc i)) in
       let rests = popped-rests i few (below-less less known) in
-      let kept : Kept (suc m) (T .principals) (sf u a b ∷ fs) (noted rows m a b) =
-      subst (λ (z : ℕ). Kept (suc m) (T .principals) (sf z a b ∷ fs) (noted rows m a b)) at (kept-note (frame .kept) p q) in
+      let kept : Kept (sheetOf T (suc m)) (sf u a b ∷ fs) (noted rows m a b) =
+      subst (λ (z : ℕ). Kept (sheetOf T (suc m)) (sf z a b ∷ fs) (noted rows m a b)) at (kept-note (frame .kept) refl p q) in
       moved-alone frame down (move.Note (principal a) (principal b)) {rows′ = noted rows m a b} {ph′ = numbers.behind goalLab i}
       (rw (one-less i) refl) refl (wrote-none frame) (λ next kept. ap (λ (k : ℕ). noted rows k a b) (one-less m))
       (clauses-set c x u low (frame .clauses)) kept (at-rest rests)

@@ -6,7 +6,7 @@ use mathlib.Core.Path.{_≡_}
 use mathlib.Core.List.{List, [], _∷_, _++_, map}
 use lib.ListN.{length, getD}
 use Rattle.scope.specs.Logic.Form.{Form}
-use Rattle.scope.specs.Logic.Facts.{Fact}
+use Rattle.scope.specs.Logic.Facts.{Fact, Sheet}
 use Rattle.scope.specs.Limits.{mostClauses, mostOpen, mostChunks}
 use Rattle.scope.specs.Logic.Obligation.{Lab, lab, Sequent, Phase, goal, chunks, focus, Obligation, ob}
 use Rattle.facts.specs.Rows.{sfRows}
@@ -80,8 +80,11 @@ pub record Clauses (T : Reading) (cl ats : List ℕ) (c : ℕ) (ls : List Lab) :
   pub known : Below (T .formulas) c cl
   pub few : c ≤ mostClauses
 
+abbrev pub sheetOf : Reading → ℕ → Sheet
+sheetOf T n = record { worlds = n; principals = T .principals }
+
 abbrev pub seq : Reading → ℕ → List Fact → List Lab → Sequent
-seq T n fs ls = record { principals = T .principals; worlds = n; facts = fs; clauses = ls }
+seq T n fs ls = record { sheet = sheetOf T n; facts = fs; clauses = ls }
 
 -- The entries es, from the top down, are the waiting obligations os; none has more worlds than n or more clauses than c.
 pub data Waits (T : Reading) (rows cl ats : List ℕ) : ℕ → ℕ → List Entry → List Obligation → Type 0 where
@@ -89,7 +92,7 @@ pub data Waits (T : Reading) (rows cl ats : List ℕ) : ℕ → ℕ → List Ent
   one-waits : {n c m d : ℕ} {ph : D.Phase} {ch sv r : List ℕ} {es : List Entry} {fs : List Fact} {ls : List Lab}
       {p : Phase} {os : List Obligation} →
       suc m ≤ n → d ≤ c → Rests T (suc m) ch ph p → length ch ≡ 16 → Clauses T cl ats d ls →
-      Kept (suc m) (T .principals) fs r → Agree (suc m) r rows → sv ≡ sfRows r m → Waits T rows cl ats (suc m) d es os →
+      Kept (sheetOf T (suc m)) fs r → Agree (suc m) r rows → sv ≡ sfRows r m → Waits T rows cl ats (suc m) d es os →
       Waits T rows cl ats n c (entry ph (suc m) d ch sv ∷ es) (ob (seq T (suc m) fs ls) p ∷ os)
 
 -- The subgoals met in a focus, each a goal in the same sequent.
@@ -108,7 +111,7 @@ pub record Frame (T : Reading) (rows : List ℕ) (stack : Stack) (n : ℕ) (cl a
   pub on-top : entryAt stack n ≡ entry ph (suc m) c ch sv
   pub chunk-size : length ch ≡ 16
   pub clauses : Clauses T cl ats c ls
-  pub kept : Kept (suc m) (T .principals) fs rows
+  pub kept : Kept (sheetOf T (suc m)) fs rows
 
 pub data Related (T : Reading) : State → List Obligation → Type 0 where
   all-closed : {rows cl ats : List ℕ} {stack : Stack} → Related T (stateOf rows stack 0 cl ats) []

@@ -16,14 +16,14 @@ use Rattle.walks.specs.Related.{labs, chunksOf, metIn}
 
 -- Worlds, clauses and chunks of an obligation are within the limits.
 pub record Small (s : Sequent) (p : Phase) : Type 0 where
-  pub worlds : s .worlds ≤ mostWorlds
+  pub worlds : s .sheet .worlds ≤ mostWorlds
   pub clauses : length (s .clauses) ≤ mostClauses
   pub chunks : chunkCount p ≤ mostChunks
 
 pub small-more : (s : Sequent) (p : Phase) (os : List Obligation) → Small s p → small os ≡ true → small (ob s p ∷ os) ≡ true
 unfolding small
 small-more s p os h e =
-    rw (le-leb (s .worlds) mostWorlds (h .worlds), le-leb (length (s .clauses)) mostClauses (h .clauses), le-leb (chunkCount p) mostChunks (h .chunks)) e
+    rw (le-leb (s .sheet .worlds) mostWorlds (h .worlds), le-leb (length (s .clauses)) mostClauses (h .clauses), le-leb (chunkCount p) mostChunks (h .chunks)) e
 
 pub within-true : (n : ℕ) (os : List Obligation) → small os ≡ true → openCount os + n ≤ mostOpen → within n os ≡ true
 unfolding within
@@ -42,15 +42,15 @@ small-false : (n : ℕ) (os : List Obligation) → small os ≡ false → within
 unfolding within both
 small-false n os e = rw e refl
 
-pub worlds-over : (n : ℕ) (s : Sequent) (p : Phase) → mostWorlds < s .worlds → within n (ob s p ∷ []) ≡ false
+pub worlds-over : (n : ℕ) (s : Sequent) (p : Phase) → mostWorlds < s .sheet .worlds → within n (ob s p ∷ []) ≡ false
 worlds-over n s p h = small-false n (ob s p ∷ []) (over h)
   where
-    over : mostWorlds < s .worlds → small (ob s p ∷ []) ≡ false
-    over h = unfold small in rw (lt-leb (s .worlds) mostWorlds h) refl
+    over : mostWorlds < s .sheet .worlds → small (ob s p ∷ []) ≡ false
+    over h = unfold small in rw (lt-leb (s .sheet .worlds) mostWorlds h) refl
 
 pub clauses-over : (n : ℕ) (s : Sequent) (p : Phase) → mostClauses < length (s .clauses) → within n (ob s p ∷ []) ≡ false
 unfolding small both
-clauses-over n s p h = small-false n (ob s p ∷ []) (go (leb (s .worlds) mostWorlds))
+clauses-over n s p h = small-false n (ob s p ∷ []) (go (leb (s .sheet .worlds) mostWorlds))
   where
     go : (b : Bool) → both (both b (both (leb (length (s .clauses)) mostClauses) (leb (chunkCount p) mostChunks))) true ≡ false
     go true = rw (lt-leb (length (s .clauses)) mostClauses h) refl
@@ -58,7 +58,7 @@ clauses-over n s p h = small-false n (ob s p ∷ []) (go (leb (s .worlds) mostWo
 
 pub chunks-over : (n : ℕ) (s : Sequent) (p : Phase) → mostChunks < chunkCount p → within n (ob s p ∷ []) ≡ false
 unfolding small both
-chunks-over n s p h = small-false n (ob s p ∷ []) (go (leb (s .worlds) mostWorlds) (leb (length (s .clauses)) mostClauses))
+chunks-over n s p h = small-false n (ob s p ∷ []) (go (leb (s .sheet .worlds) mostWorlds) (leb (length (s .clauses)) mostClauses))
   where
     go : (a b : Bool) → both (both a (both b (leb (chunkCount p) mostChunks))) true ≡ false
     go true true = rw (lt-leb (chunkCount p) mostChunks h) refl
@@ -83,7 +83,7 @@ met-length s (chunks c cs g) = refl
 met-length s (focus d p w met) = length-map met (λ (g : Lab). ob s (goal g))
 
 -- Subgoals that were met, as obligations of their own.
-pub goals-small : (s : Sequent) → s .worlds ≤ mostWorlds → length (s .clauses) ≤ mostClauses → (met : List Lab) →
+pub goals-small : (s : Sequent) → s .sheet .worlds ≤ mostWorlds → length (s .clauses) ≤ mostClauses → (met : List Lab) →
     small (map (λ (g : Lab). ob s (goal g)) met) ≡ true
 unfolding small chunkCount
 goals-small s h g [] = refl

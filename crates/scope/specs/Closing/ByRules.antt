@@ -2,16 +2,16 @@
 use Prim.Native.Nat.{ℕ}
 use mathlib.Core.List.{List}
 use Rattle.scope.specs.Logic.Facts as F
-use Rattle.scope.specs.Logic.Facts.{Fact, le, by, sf, Rules, Closed, given, Among}
+use Rattle.scope.specs.Logic.Facts.{Fact, le, by, sf, Sheet, Rules, Closed, given, Among}
 use Rattle.scope.specs.Logic.Held.{lesOf, linksOf, pairsAt}
 use Rattle.scope.specs.Closing.Paths.{Path, Way, stay, go, along, path-joined, way-joined, one-edge}
 use Rattle.scope.specs.Closing.Computed.{les-given, given-le, Link, link-le, link-by, links-given, le-links, by-links, Pair, pair, pairs-given, given-pair}
 use Rattle.scope.specs.Closing.Computed.{reach, below, Holds, same, up, self, speaks, sees}
 
 -- What `holds` says follows by the rules.
-module _ (n k : ℕ) (fs : List Fact) where
+module _ (sheet : Sheet) (fs : List Fact) where
   abbrev Follows : Fact → Type 0
-  Follows f = Closed n k (Among fs) f
+  Follows f = Closed sheet (Among fs) f
 
   -- Along links an `sf` is carried on (rules 4 and 5),
   carries : (u v : ℕ) → Way (linksOf fs) u v → (a b : ℕ) → Follows (sf u a b) → Follows (sf v a b)
@@ -43,7 +43,7 @@ module _ (n k : ℕ) (fs : List Fact) where
       by-pair : {a b : ℕ} → Pair (linksOf fs) u a b fs → Follows (sf u a b)
       by-pair (pair {x} i w) = carries x u w _ _ (given i)
 
-  pub follows : {f : Fact} → Holds n k fs f → Closed n k (Among fs) f
+  pub follows : {f : Fact} → Holds sheet fs f → Closed sheet (Among fs) f
   follows (same l) = F.rule7 l
   follows (up {u} {v} p) =
       along (λ u v. Follows (le u v)) (λ u v w r s. F.rule8 r s) (lesOf fs) (λ u v o. given (les-given fs o)) u v p
@@ -53,11 +53,11 @@ module _ (n k : ℕ) (fs : List Fact) where
   follows (sees {a} {u} {w} (reach {b} {x} i s (go p))) = seen u x s a w (F.rule2 (given i) (pairs-follow x a b p))
 
 -- What follows by the rules `holds` says: its facts hold the given ones and are closed under each rule.
-module _ (n k : ℕ) (fs : List Fact) where
+module _ (sheet : Sheet) (fs : List Fact) where
   abbrev H : Fact → Type 0
-  H f = Holds n k fs f
+  H f = Holds sheet fs f
 
-  pub gives : (f : Fact) → Among fs f → Holds n k fs f
+  pub gives : (f : Fact) → Among fs f → Holds sheet fs f
   gives (le u v) i = up (one-edge (given-le i))
   gives (by a u v) i = sees (reach i stay stay)
   gives (sf u a b) i = speaks (one-edge (given-pair (linksOf fs) u i stay))
@@ -104,7 +104,7 @@ module _ (n k : ℕ) (fs : List Fact) where
   way-by : {u v w a : ℕ} → Way (linksOf fs) u v → H (by a v w) → H (by a u w)
   way-by l (sees (reach i s t)) = sees (reach i (way-joined l s) t)
 
-  pub obeys : Rules n k (Holds n k fs)
+  pub obeys : Rules sheet (Holds sheet fs)
   obeys =
       record {
         rule1 = λ u a i l. self l (below i stay);

@@ -6,7 +6,7 @@ use mathlib.Core.List.{List, [], _∷_}
 use mathlib.Core.Logic.{_⊎_, inl, inr}
 use native.Mathlib.Omega.{arith}
 use native.Mathlib.Nat.{eq-or-lt-of-le, le-of-suc-le-suc}
-use Rattle.scope.specs.Logic.Facts.{Fact, le, by, sf, Among, here, there}
+use Rattle.scope.specs.Logic.Facts.{Fact, le, by, sf, Sheet, Among, here, there}
 use Rattle.scope.specs.Logic.Held.{Edge, edge, way, lesOf, linksOf, addIf, pairsAt, reaches, fromBelow, holds}
 use Rattle.scope.specs.Closing.Paths.{Agrees, agrees-as, agrees-none, agrees-both, agrees-either, agrees-eqb, agrees-ltb}
 use Rattle.scope.specs.Closing.Paths.{Path, Way, path-agrees, way-agrees, On, first, later}
@@ -99,12 +99,12 @@ pub data Below (n : ℕ) (links : List Edge) (u : ℕ) : Type 0 where
   below : {x : ℕ} → x < n → Way links x u → Below n links u
 
 -- `holds`, constructor for case.
-pub data Holds (n k : ℕ) (fs : List Fact) : Fact → Type 0 where
-  same : {u : ℕ} → u < n → Holds n k fs (le u u)
-  up : {u v : ℕ} → Path (lesOf fs) u v → Holds n k fs (le u v)
-  self : {u a : ℕ} → a < k → Below n (linksOf fs) u → Holds n k fs (sf u a a)
-  speaks : {u a b : ℕ} → Path (pairsAt (linksOf fs) u fs) a b → Holds n k fs (sf u a b)
-  sees : {a u w : ℕ} → Reach fs (linksOf fs) a u w fs → Holds n k fs (by a u w)
+pub data Holds (s : Sheet) (fs : List Fact) : Fact → Type 0 where
+  same : {u : ℕ} → u < s .worlds → Holds s fs (le u u)
+  up : {u v : ℕ} → Path (lesOf fs) u v → Holds s fs (le u v)
+  self : {u a : ℕ} → a < s .principals → Below (s .worlds) (linksOf fs) u → Holds s fs (sf u a a)
+  speaks : {u a b : ℕ} → Path (pairsAt (linksOf fs) u fs) a b → Holds s fs (sf u a b)
+  sees : {a u w : ℕ} → Reach fs (linksOf fs) a u w fs → Holds s fs (by a u w)
 
 reach-later : {all : List Fact} {links : List Edge} {a u w : ℕ} {g : Fact} {fs : List Fact} →
     Reach all links a u w fs → Reach all links a u w (g ∷ fs)
@@ -162,33 +162,33 @@ below-agrees (suc n) links u =
         by-place (inl e) w = inl (rw e at w)
         by-place (inr l) w = inr (below l w)
 
-pub holds-agrees : (n k : ℕ) (fs : List Fact) (f : Fact) → Agrees (holds n k fs f) (Holds n k fs f)
+pub holds-agrees : (s : Sheet) (fs : List Fact) (f : Fact) → Agrees (holds s fs f) (Holds s fs f)
 unfolding holds
-holds-agrees n k fs (le u v) =
-    agrees-as to from (agrees-either (agrees-both (agrees-eqb u v) (agrees-ltb u n)) (path-agrees (lesOf fs) u v))
+holds-agrees s fs (le u v) =
+    agrees-as to from (agrees-either (agrees-both (agrees-eqb u v) (agrees-ltb u (s .worlds))) (path-agrees (lesOf fs) u v))
   where
-    to : ((u ≡ v) × (u < n)) ⊎ Path (lesOf fs) u v → Holds n k fs (le u v)
+    to : ((u ≡ v) × (u < s .worlds)) ⊎ Path (lesOf fs) u v → Holds s fs (le u v)
     to (inl p) = rw (← p .0) (same (p .1))
     to (inr p) = up p
 
-    from : {v : ℕ} → Holds n k fs (le u v) → ((u ≡ v) × (u < n)) ⊎ Path (lesOf fs) u v
+    from : {v : ℕ} → Holds s fs (le u v) → ((u ≡ v) × (u < s .worlds)) ⊎ Path (lesOf fs) u v
     from (same l) = inl (refl, l)
     from (up p) = inr p
-holds-agrees n k fs (sf u a b) =
+holds-agrees s fs (sf u a b) =
     agrees-as to from
     (agrees-either
-    (agrees-both (agrees-eqb a b) (agrees-both (agrees-ltb a k) (below-agrees n (linksOf fs) u)))
+    (agrees-both (agrees-eqb a b) (agrees-both (agrees-ltb a (s .principals)) (below-agrees (s .worlds) (linksOf fs) u)))
     (path-agrees (pairsAt (linksOf fs) u fs) a b))
   where
-    to : ((a ≡ b) × ((a < k) × Below n (linksOf fs) u)) ⊎ Path (pairsAt (linksOf fs) u fs) a b → Holds n k fs (sf u a b)
+    to : ((a ≡ b) × ((a < s .principals) × Below (s .worlds) (linksOf fs) u)) ⊎ Path (pairsAt (linksOf fs) u fs) a b → Holds s fs (sf u a b)
     to (inl p) = rw (← p .0) (self (p .1 .0) (p .1 .1))
     to (inr p) = speaks p
 
-    from : {b : ℕ} → Holds n k fs (sf u a b) →
-        ((a ≡ b) × ((a < k) × Below n (linksOf fs) u)) ⊎ Path (pairsAt (linksOf fs) u fs) a b
+    from : {b : ℕ} → Holds s fs (sf u a b) →
+        ((a ≡ b) × ((a < s .principals) × Below (s .worlds) (linksOf fs) u)) ⊎ Path (pairsAt (linksOf fs) u fs) a b
     from (self l s) = inl (refl, (l, s))
     from (speaks p) = inr p
-holds-agrees n k fs (by a u w) = agrees-as (λ r. sees r) from (reaches-agrees fs (linksOf fs) a u w fs)
+holds-agrees s fs (by a u w) = agrees-as (λ r. sees r) from (reaches-agrees fs (linksOf fs) a u w fs)
   where
-    from : Holds n k fs (by a u w) → Reach fs (linksOf fs) a u w fs
+    from : Holds s fs (by a u w) → Reach fs (linksOf fs) a u w fs
     from (sees r) = r

@@ -2,17 +2,17 @@
 use Prim.Native.Nat.{ℕ, _≤_}
 use mathlib.Core.Logic.{_↔_, _⊎_, inl, inr, ⊎-elim}
 use native.Mathlib.Omega.{arith}
-use Rattle.scope.specs.Logic.Facts.{Fact, Closed, given, rule1, rule7, closed, least}
+use Rattle.scope.specs.Logic.Facts.{Fact, Sheet, Closed, given, rule1, rule7, closed, least}
 
 -- One set of facts and another put together.
 abbrev pub Joined : (Fact → Type 0) → (Fact → Type 0) → Fact → Type 0
 Joined A B f = A f ⊎ B f
 
 -- Closing is monotone in worlds, principals and base.
-pub larger : {n k m j : ℕ} {A B : Fact → Type 0} {f : Fact} →
-    n ≤ m → k ≤ j → ((g : Fact) → A g → B g) → Closed n k A f → Closed m j B f
-larger {m} {j} {B} p q h =
-    let c = closed m j B in
+pub larger : {s t : Sheet} {A B : Fact → Type 0} {f : Fact} →
+    s .worlds ≤ t .worlds → s .principals ≤ t .principals → ((g : Fact) → A g → B g) → Closed s A f → Closed t B f
+larger {t} {B} p q h =
+    let c = closed t B in
     least
     (record {
       rule1 = λ u a i l. rule1 (omega arith) (omega arith);
@@ -28,25 +28,25 @@ larger {m} {j} {B} p q h =
     (λ g a. given (h g a))
 
 -- What follows from a base follows from each base from which that base follows.
-pub through : {n k : ℕ} {A B : Fact → Type 0} {f : Fact} →
-    ((g : Fact) → A g → Closed n k B g) → Closed n k A f → Closed n k B f
-through {n} {k} {B} h = least (closed n k B) h
+pub through : {s : Sheet} {A B : Fact → Type 0} {f : Fact} →
+    ((g : Fact) → A g → Closed s B g) → Closed s A f → Closed s B f
+through {s} {B} h = least (closed s B) h
 
 -- Closing twice changes nothing.
-pub twice : (n k : ℕ) (A : Fact → Type 0) (f : Fact) → Closed n k (Closed n k A) f ↔ Closed n k A f
-twice n k A f = (through (λ g p. p), λ p. given p)
+pub twice : (s : Sheet) (A : Fact → Type 0) (f : Fact) → Closed s (Closed s A) f ↔ Closed s A f
+twice s A f = (through (λ g p. p), λ p. given p)
 
 -- Closing the union of two bases is closing the union of their closed sets.
-pub union : (n k : ℕ) (A B : Fact → Type 0) (f : Fact) →
-    Closed n k (Joined A B) f ↔ Closed n k (Joined (Closed n k A) (Closed n k B)) f
-union n k A B f = (
+pub union : (s : Sheet) (A B : Fact → Type 0) (f : Fact) →
+    Closed s (Joined A B) f ↔ Closed s (Joined (Closed s A) (Closed s B)) f
+union s A B f = (
   through (λ g. ⊎-elim (λ a. given (inl (given a))) (λ b. given (inr (given b)))),
   through (λ g. ⊎-elim (through (λ h a. given (inl a))) (through (λ h b. given (inr b)))),
 )
 
 -- Of two sets added one after the other, with closing between, either may come first.
-pub order : (n k : ℕ) (A B C : Fact → Type 0) (f : Fact) →
-    Closed n k (Joined (Closed n k (Joined A B)) C) f → Closed n k (Joined (Closed n k (Joined A C)) B) f
-order n k A B C f =
+pub order : (s : Sheet) (A B C : Fact → Type 0) (f : Fact) →
+    Closed s (Joined (Closed s (Joined A B)) C) f → Closed s (Joined (Closed s (Joined A C)) B) f
+order s A B C f =
     through
     (λ g. ⊎-elim (through (λ h. ⊎-elim (λ a. given (inl (given (inl a)))) (λ b. given (inr b)))) (λ c. given (inl (given (inr c)))))

@@ -14,7 +14,7 @@ use Rattle.scope.specs.Logic.Obligation.{Step, And, Or1, Or2, Imp, Says,
 
 -- A fact is among the closed facts of a sequent.
 abbrev pub Has : Sequent → Fact.Fact → Type 0
-Has s f = Closed (s .worlds) (s .principals) (Among (s .facts)) f
+Has s f = Closed (s .sheet) (Among (s .facts)) f
 
 -- Rule o x os: the step x fits the obligation o, and the obligations os, first one first, take its place.
 pub data Rule : Obligation → Step → List Obligation → Type 0 where
@@ -29,11 +29,11 @@ pub data Rule : Obligation → Step → List Obligation → Type 0 where
   -- `imp`: new world v, u ≤ v; left part is a chunk at v; goal is the right part at v.
   by-imp : {s : Sequent} {f g : Form} {u : ℕ} →
       Rule (ob s (goal (lab (F.imp f g) u))) Imp
-      (ob (withWorld s (Fact.le u (s .worlds))) (chunks f [] (lab g (s .worlds))) ∷ [])
+      (ob (withWorld s (Fact.le u (s .sheet .worlds))) (chunks f [] (lab g (s .sheet .worlds))) ∷ [])
   -- `says`: new world v, u S_A v; goal at v.
   by-says : {s : Sequent} {a : ℕ} {f : Form} {u : ℕ} →
       Rule (ob s (goal (lab (F.says a f) u))) Says
-      (ob (withWorld s (Fact.by a u (s .worlds))) (goal (lab f (s .worlds))) ∷ [])
+      (ob (withWorld s (Fact.by a u (s .sheet .worlds))) (goal (lab f (s .sheet .worlds))) ∷ [])
   -- `top` closes. `sf` closes where the closed facts have it. `bot` has no step.
   by-top : {s : Sequent} {u : ℕ} → Rule (ob s (goal (lab F.top u))) Top []
   by-sf : {s : Sequent} {a b u : ℕ} → Has s (Fact.sf u a b) → Rule (ob s (goal (lab (F.sf a b) u))) Sf []
@@ -47,10 +47,10 @@ pub data Rule : Obligation → Step → List Obligation → Type 0 where
   by-right : {s : Sequent} {f g : Form} {u p w : ℕ} {met : List Lab} →
       Rule (ob s (focus (lab (F.and f g) u) p w met)) Right (ob s (focus (lab g u) p w met) ∷ [])
   -- `to V` on `imp`: needs u ≤ V; the left part at V is a subgoal, focus goes to the right part at V.
-  by-to-imp : {s : Sequent} {f g : Form} {u v p w : ℕ} {met : List Lab} → v < s .worlds → Has s (Fact.le u v) →
+  by-to-imp : {s : Sequent} {f g : Form} {u v p w : ℕ} {met : List Lab} → v < s .sheet .worlds → Has s (Fact.le u v) →
       Rule (ob s (focus (lab (F.imp f g) u) p w met)) (To v) (ob s (focus (lab g v) p w (lab f v ∷ met)) ∷ [])
   -- On `says`: needs u S_A V; focus on the body at V.
-  by-to-says : {s : Sequent} {a : ℕ} {f : Form} {u v p w : ℕ} {met : List Lab} → v < s .worlds → Has s (Fact.by a u v) →
+  by-to-says : {s : Sequent} {a : ℕ} {f : Form} {u v p w : ℕ} {met : List Lab} → v < s .sheet .worlds → Has s (Fact.by a u v) →
       Rule (ob s (focus (lab (F.says a f) u) p w met)) (To v) (ob s (focus (lab f v) p w met) ∷ [])
   -- `hit` on an atom: the same atom, and u ≤ w. Subgoals met are then proved, last met first, in the sequent that stood at `use`
   -- (which no step in focus changes).

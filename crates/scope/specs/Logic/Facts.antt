@@ -1,5 +1,5 @@
 -- Document 01's section 'Facts at the worlds'.
-use Prim.Native.Nat.{ℕ, _<_}
+use Prim.Native.Nat.{ℕ, suc, _<_}
 use mathlib.Core.List.{List, _∷_}
 
 -- A sequent has facts u ≤ v, u S_A v and u: A sf B.
@@ -8,10 +8,19 @@ pub data Fact : Type 0 where
   by : ℕ → ℕ → ℕ → Fact
   sf : ℕ → ℕ → ℕ → Fact
 
--- A set of facts H over n worlds and k principals is closed under the nine rules.
-pub record Rules (n k : ℕ) (H : Fact → Type 0) : Type 0 where
+-- What the rules are told of a sequent: how many worlds and how many principals there are.
+pub record Sheet : Type 0 where
+  pub worlds : ℕ
+  pub principals : ℕ
+
+-- The same with one world more.
+abbrev pub grown : Sheet → Sheet
+grown s = record { worlds = suc (s .worlds); principals = s .principals }
+
+-- A set of facts H is closed under the nine rules.
+pub record Rules (s : Sheet) (H : Fact → Type 0) : Type 0 where
   -- 1. u: A sf A for each world and principal
-  pub rule1 : (u a : ℕ) → u < n → a < k → H (sf u a a)
+  pub rule1 : (u a : ℕ) → u < s .worlds → a < s .principals → H (sf u a a)
   -- 2. u S_B v with u: A sf B gives u S_A v
   pub rule2 : (u v a b : ℕ) → H (by b u v) → H (sf u a b) → H (by a u v)
   -- 3. u: A sf B with u: B sf C gives u: A sf C
@@ -23,7 +32,7 @@ pub record Rules (n k : ℕ) (H : Fact → Type 0) : Type 0 where
   -- 6. u ≤ v with v S_A w gives u S_A w
   pub rule6 : (u v w a : ℕ) → H (le u v) → H (by a v w) → H (by a u w)
   -- 7. u ≤ u
-  pub rule7 : (u : ℕ) → u < n → H (le u u)
+  pub rule7 : (u : ℕ) → u < s .worlds → H (le u u)
   -- 8. u ≤ v with v ≤ w gives u ≤ w
   pub rule8 : (u v w : ℕ) → H (le u v) → H (le v w) → H (le u w)
   -- 9. u S_B v with v S_A w gives u S_A w
@@ -35,21 +44,21 @@ pub data Among : List Fact → Fact → Type 0 where
   there : {f g : Fact} {fs : List Fact} → Among fs f → Among (g ∷ fs) f
 
 -- The facts that follow from a base: the base's own, and what the nine rules give. They hold nothing else (least such set).
-pub data Closed (n k : ℕ) (base : Fact → Type 0) : Fact → Type 0 where
-  given : {f : Fact} → base f → Closed n k base f
-  rule1 : {u a : ℕ} → u < n → a < k → Closed n k base (sf u a a)
-  rule2 : {u v a b : ℕ} → Closed n k base (by b u v) → Closed n k base (sf u a b) → Closed n k base (by a u v)
-  rule3 : {u a b c : ℕ} → Closed n k base (sf u a b) → Closed n k base (sf u b c) → Closed n k base (sf u a c)
-  rule4 : {u v a b c : ℕ} → Closed n k base (by c u v) → Closed n k base (sf u a b) → Closed n k base (sf v a b)
-  rule5 : {u v a b : ℕ} → Closed n k base (le u v) → Closed n k base (sf u a b) → Closed n k base (sf v a b)
-  rule6 : {u v w a : ℕ} → Closed n k base (le u v) → Closed n k base (by a v w) → Closed n k base (by a u w)
-  rule7 : {u : ℕ} → u < n → Closed n k base (le u u)
-  rule8 : {u v w : ℕ} → Closed n k base (le u v) → Closed n k base (le v w) → Closed n k base (le u w)
-  rule9 : {u v w a b : ℕ} → Closed n k base (by b u v) → Closed n k base (by a v w) → Closed n k base (by a u w)
+pub data Closed (s : Sheet) (base : Fact → Type 0) : Fact → Type 0 where
+  given : {f : Fact} → base f → Closed s base f
+  rule1 : {u a : ℕ} → u < s .worlds → a < s .principals → Closed s base (sf u a a)
+  rule2 : {u v a b : ℕ} → Closed s base (by b u v) → Closed s base (sf u a b) → Closed s base (by a u v)
+  rule3 : {u a b c : ℕ} → Closed s base (sf u a b) → Closed s base (sf u b c) → Closed s base (sf u a c)
+  rule4 : {u v a b c : ℕ} → Closed s base (by c u v) → Closed s base (sf u a b) → Closed s base (sf v a b)
+  rule5 : {u v a b : ℕ} → Closed s base (le u v) → Closed s base (sf u a b) → Closed s base (sf v a b)
+  rule6 : {u v w a : ℕ} → Closed s base (le u v) → Closed s base (by a v w) → Closed s base (by a u w)
+  rule7 : {u : ℕ} → u < s .worlds → Closed s base (le u u)
+  rule8 : {u v w : ℕ} → Closed s base (le u v) → Closed s base (le v w) → Closed s base (le u w)
+  rule9 : {u v w a b : ℕ} → Closed s base (by b u v) → Closed s base (by a v w) → Closed s base (by a u w)
 
 -- `Closed` is closed under the rules,
-pub closed : (n k : ℕ) (base : Fact → Type 0) → Rules n k (Closed n k base)
-closed n k base =
+pub closed : (s : Sheet) (base : Fact → Type 0) → Rules s (Closed s base)
+closed s base =
     record {
       rule1 = λ u a p q. rule1 p q;
       rule2 = λ u v a b p q. rule2 p q;
@@ -63,8 +72,8 @@ closed n k base =
     }
 
 -- and every set that is so and holds the base holds it whole: it is the least.
-pub least : {n k : ℕ} {base H : Fact → Type 0} {f : Fact} →
-    Rules n k H → ((g : Fact) → base g → H g) → Closed n k base f → H f
+pub least : {s : Sheet} {base H : Fact → Type 0} {f : Fact} →
+    Rules s H → ((g : Fact) → base g → H g) → Closed s base f → H f
 least r b (given {f} p) = b f p
 least r b (rule1 {u} {a} p q) = r .rule1 u a p q
 least r b (rule2 {u} {v} {a} {b = c} p q) = r .rule2 u v a c (least r b p) (least r b q)

@@ -5,7 +5,7 @@ use mathlib.Core.Bool.{Bool, true, false}
 use mathlib.Core.List.{List, [], _∷_}
 use lib.Dec.{eqb, ltb}
 use Rattle.scope.specs.Logic.Form.{both, either}
-use Rattle.scope.specs.Logic.Facts.{Fact, le, by, sf}
+use Rattle.scope.specs.Logic.Facts.{Fact, le, by, sf, Sheet}
 
 -- An edge from a number to a number: of worlds, or of principals.
 pub data Edge : Type 0 where
@@ -63,34 +63,37 @@ unfolding way either
 fromBelow zero links u = false
 fromBelow (suc x) links u = either (way links x u) (fromBelow x links u)
 
--- For n worlds and k principals and the given facts: is the fact one of the closed ones?
-unfoldable pub holds : ℕ → ℕ → List Fact → Fact → Bool
+-- For a sheet and the given facts: is the fact one of the closed ones?
+unfoldable pub holds : Sheet → List Fact → Fact → Bool
 unfolding path lesOf linksOf pairsAt reaches fromBelow both either
-holds n k fs (le u v) = either (both (eqb u v) (ltb u n)) (path (lesOf fs) u v)
-holds n k fs (sf u a b) =
-    either (both (eqb a b) (both (ltb a k) (fromBelow n (linksOf fs) u))) (path (pairsAt (linksOf fs) u fs) a b)
-holds n k fs (by a u w) = reaches fs (linksOf fs) a u w fs
+holds s fs (le u v) = either (both (eqb u v) (ltb u (s .worlds))) (path (lesOf fs) u v)
+holds s fs (sf u a b) =
+    either (both (eqb a b) (both (ltb a (s .principals)) (fromBelow (s .worlds) (linksOf fs) u))) (path (pairsAt (linksOf fs) u fs) a b)
+holds s fs (by a u w) = reaches fs (linksOf fs) a u w fs
+
+abbrev sheet : ℕ → ℕ → Sheet
+sheet n k = record { worlds = n; principals = k }
 
 -- P1's sixth step needs 0 S_1 1, and has it of 0 S_0 1 and 0: 1 sf 0 by rule 2.
-p1-seen : holds 2 2 (by 0 0 1 ∷ sf 0 1 0 ∷ []) (by 1 0 1) ≡ true
+p1-seen : holds (sheet 2 2) (by 0 0 1 ∷ sf 0 1 0 ∷ []) (by 1 0 1) ≡ true
 unfolding holds
 p1-seen = refl
 
 -- P2 has 0: 0 sf 1 instead, from which it does not follow.
-p2-unseen : holds 2 2 (by 0 0 1 ∷ sf 0 0 1 ∷ []) (by 1 0 1) ≡ false
+p2-unseen : holds (sheet 2 2) (by 0 0 1 ∷ sf 0 0 1 ∷ []) (by 1 0 1) ≡ false
 unfolding holds
 p2-unseen = refl
 
 -- 0 ≤ 1 with 1 S_0 2 gives 0 S_0 2 by rule 6, and 0 S_0 1 with 1 ≤ 2 does not.
-le-by-seen : holds 3 1 (by 0 1 2 ∷ le 0 1 ∷ []) (by 0 0 2) ≡ true
+le-by-seen : holds (sheet 3 1) (by 0 1 2 ∷ le 0 1 ∷ []) (by 0 0 2) ≡ true
 unfolding holds
 le-by-seen = refl
 
-by-le-unseen : holds 3 1 (le 1 2 ∷ by 0 0 1 ∷ []) (by 0 0 2) ≡ false
+by-le-unseen : holds (sheet 3 1) (le 1 2 ∷ by 0 0 1 ∷ []) (by 0 0 2) ≡ false
 unfolding holds
 by-le-unseen = refl
 
 -- Rule 4 carries 0: 0 sf 0 to world 5, though there is but one world: no list of facts is shut out.
-self-carried : holds 1 1 (by 0 0 5 ∷ []) (sf 5 0 0) ≡ true
+self-carried : holds (sheet 1 1) (by 0 0 5 ∷ []) (sf 5 0 0) ≡ true
 unfolding holds
 self-carried = refl

@@ -4,7 +4,7 @@ use mathlib.Core.List.{List, [], _∷_, _++_, map}
 use lib.ListN.{getD}
 use Rattle.scope.specs.Logic.Form as F
 use Rattle.scope.specs.Logic.Form.{Form}
-use Rattle.scope.specs.Logic.Facts.{Fact, sf}
+use Rattle.scope.specs.Logic.Facts.{Fact, sf, Sheet, grown}
 use Rattle.scope.specs.File.Request.{Row}
 
 -- A formula at a world.
@@ -15,8 +15,7 @@ pub record Lab : Type 0 where
 -- The worlds are 0 to worlds - 1 and world 0 is the root. The facts are those that were given; the closed ones follow by the rules.
 -- A clause's number is its place. The policy lines come first, an `sf` line among them, which is no clause to use.
 pub record Sequent : Type 0 where
-  pub principals : ℕ
-  pub worlds : ℕ
+  pub sheet : Sheet
   pub facts : List Fact
   pub clauses : List Lab
 
@@ -83,8 +82,7 @@ behind (c ∷ cs) g = chunks c cs g
 abbrev pub withWorld : Sequent → Fact → Sequent
 withWorld s f =
     record {
-      principals = s .principals;
-      worlds = suc (s .worlds);
+      sheet = grown (s .sheet);
       facts = f ∷ s .facts;
       clauses = s .clauses;
     }
@@ -92,8 +90,7 @@ withWorld s f =
 abbrev pub withFact : Sequent → Fact → Sequent
 withFact s f =
     record {
-      principals = s .principals;
-      worlds = s .worlds;
+      sheet = s .sheet;
       facts = f ∷ s .facts;
       clauses = s .clauses;
     }
@@ -102,8 +99,7 @@ withFact s f =
 abbrev pub withClause : Sequent → Lab → Sequent
 withClause s l =
     record {
-      principals = s .principals;
-      worlds = s .worlds;
+      sheet = s .sheet;
       facts = s .facts;
       clauses = s .clauses ++ (l ∷ []);
     }
@@ -129,8 +125,7 @@ unfolding rootFacts
 start k policy g =
     ob
     (record {
-      principals = k;
-      worlds = 1;
+      sheet = record { worlds = 1; principals = k };
       facts = rootFacts policy;
       clauses = map (λ (f : Form). lab f 0) policy;
     })

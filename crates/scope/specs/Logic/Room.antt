@@ -30,7 +30,7 @@ unfolding both chunkCount
 small [] = true
 small (o ∷ os) =
     both
-    (both (leb (o .sequent .worlds) mostWorlds)
+    (both (leb (o .sequent .sheet .worlds) mostWorlds)
     (both (leb (length (o .sequent .clauses)) mostClauses) (leb (chunkCount (o .phase)) mostChunks)))
     (small os)
 

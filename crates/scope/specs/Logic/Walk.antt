@@ -106,7 +106,7 @@ onClause (some l) m = need 8 (negate (isSf (l .form))) (m l)
 -- A fact among the closed facts of a sequent, computed.
 unfoldable pub has : Sequent → Fact → Bool
 unfolding holds
-has s f = holds (s .worlds) (s .principals) (s .facts) f
+has s f = holds (s .sheet) (s .facts) f
 
 abbrev pub alone : Sequent → Phase → Onward
 alone s p = onto (ob s p ∷ [])
@@ -117,8 +117,8 @@ unfolding atGoal inFocus atChunk onAtom onTop onBot onAnd onOr onImp onSays onSf
 stepOn And s p = atGoal p λ f u. onAnd f λ g h. onto (ob s (goal (lab g u)) ∷ ob s (goal (lab h u)) ∷ [])
 stepOn Or1 s p = atGoal p λ f u. onOr f λ g h. alone s (goal (lab g u))
 stepOn Or2 s p = atGoal p λ f u. onOr f λ g h. alone s (goal (lab h u))
-stepOn Imp s p = atGoal p λ f u. onImp f λ g h. alone (withWorld s (le u (s .worlds))) (chunks g [] (lab h (s .worlds)))
-stepOn Says s p = atGoal p λ f u. onSays f λ a g. alone (withWorld s (by a u (s .worlds))) (goal (lab g (s .worlds)))
+stepOn Imp s p = atGoal p λ f u. onImp f λ g h. alone (withWorld s (le u (s .sheet .worlds))) (chunks g [] (lab h (s .sheet .worlds)))
+stepOn Says s p = atGoal p λ f u. onSays f λ a g. alone (withWorld s (by a u (s .sheet .worlds))) (goal (lab g (s .sheet .worlds)))
 stepOn Top s p = atGoal p λ f u. onTop f (onto [])
 stepOn Sf s p = atGoal p λ f u. onSf f λ a b. need 9 (has s (sf u a b)) (onto [])
 stepOn (Use c) s p = atGoal p λ f w. onAtom f λ q. onClause (getElem? (s .clauses) c) λ l. alone s (focus l q w [])
@@ -127,8 +127,8 @@ stepOn Right s p = inFocus p λ f u q w met. onAnd f λ g h. alone s (focus (lab
 stepOn (To v) s p =
     inFocus p λ f u q w met.
     onImpSays f
-    (λ g h. need 8 (ltb v (s .worlds)) (need 9 (has s (le u v)) (alone s (focus (lab h v) q w (lab g v ∷ met)))))
-    (λ a g. need 8 (ltb v (s .worlds)) (need 9 (has s (by a u v)) (alone s (focus (lab g v) q w met))))
+    (λ g h. need 8 (ltb v (s .sheet .worlds)) (need 9 (has s (le u v)) (alone s (focus (lab h v) q w (lab g v ∷ met)))))
+    (λ a g. need 8 (ltb v (s .sheet .worlds)) (need 9 (has s (by a u v)) (alone s (focus (lab g v) q w met))))
 stepOn Hit s p =
     inFocus p λ f u q w met.
     onAtom f λ r. need 9 (eqb r q) (need 9 (has s (le u w)) (onto (map (λ (g : Lab). ob s (goal g)) met)))
