@@ -1,3 +1,5 @@
 -- Cases and limits of document 01, computed by the checker.
 pub mod Cases
+pub mod Guards
 pub mod Bounds
+pub mod Lent

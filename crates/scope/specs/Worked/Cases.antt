@@ -68,32 +68,3 @@ twelve =
 pub twelve-hold : map (λ (c : Case). gate (bytes (c .text))) twelve ≡ map (λ (c : Case). c .comes) twelve
 unfolding gate twelve
 twelve-hold = refl
-
--- 'Easy to get wrong': where the twelve would not tell.
-unfoldable pub guards : List Case
-guards =
-    -- two subgoals, proved last met first: policy p1 imp (p2 imp p0), p1, p2, goal p0
-    case
-    "version=1\nprincipals=1\natoms=3\nformulas=5\nform=p 0\nform=p 1\nform=p 2\nform=imp 2 0\nform=imp 1 3\nclauses=3\nclause=4\nclause=1\nclause=2\ngoal=0\nsteps=8\nstep=use 0\nstep=to 0\nstep=to 0\nstep=hit\nstep=use 2\nstep=hit\nstep=use 1\nstep=hit\n"
-    (prints 0 0 8) ∷
-    -- a note is closed with the facts: goal (0 sf 1) imp (0 sf 1)
-    case
-    "version=1\nprincipals=2\natoms=1\nformulas=2\nform=sf 0 1\nform=imp 0 0\nclauses=0\ngoal=1\nsteps=3\nstep=imp\nstep=note\nstep=sf\n"
-    (prints 0 0 3) ∷
-    -- a note of the first branch is gone in the second: goal ((0 sf 1) or p0) imp (0 sf 1)
-    case
-    "version=1\nprincipals=2\natoms=1\nformulas=4\nform=sf 0 1\nform=p 0\nform=or 0 1\nform=imp 2 0\nclauses=0\ngoal=3\nsteps=6\nstep=imp\nstep=case\nstep=note\nstep=sf\nstep=push\nstep=sf\n"
-    (prints 9 6 6) ∷
-    -- a clause used from a newer world, by 0 S_0 1 and 1 ≤ 2: policy 0 says p1, goal 0 says (p0 imp p1), `to 1`
-    case
-    "version=1\nprincipals=1\natoms=2\nformulas=5\nform=p 0\nform=p 1\nform=says 0 1\nform=imp 0 1\nform=says 0 3\nclauses=1\nclause=2\ngoal=4\nsteps=6\nstep=says\nstep=imp\nstep=push\nstep=use 0\nstep=to 1\nstep=hit\n"
-    (prints 0 0 6) ∷
-    -- and no rule takes S along ≤ on the right: the same with `to 2`
-    case
-    "version=1\nprincipals=1\natoms=2\nformulas=5\nform=p 0\nform=p 1\nform=says 0 1\nform=imp 0 1\nform=says 0 3\nclauses=1\nclause=2\ngoal=4\nsteps=6\nstep=says\nstep=imp\nstep=push\nstep=use 0\nstep=to 2\nstep=hit\n"
-    (prints 9 5 6) ∷
-    []
-
-pub guards-hold : map (λ (c : Case). gate (bytes (c .text))) guards ≡ map (λ (c : Case). c .comes) guards
-unfolding gate guards
-guards-hold = refl
