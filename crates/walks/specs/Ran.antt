@@ -80,10 +80,10 @@ after-match no-fit i next go same = rw add-one refl
 after-match (no-room e) i next go same = rw (e, add-one) refl
 after-match {waiting} (fits {m} {os} e r) i next go same = rw e (same m (os ++ waiting) r)
 
-none-open : {T : Reading} {s : State} → Related T s [] → eqb (s .opened) 0 ≡ true
+pub none-open : {T : Reading} {s : State} → Related T s [] → eqb (s .opened) 0 ≡ true
 none-open all-closed = refl
 
-some-open : {T : Reading} {s : State} {o : Obligation} {waiting : List Obligation} → Related T s (o ∷ waiting) → eqb (s .opened) 0 ≡ false
+pub some-open : {T : Reading} {s : State} {o : Obligation} {waiting : List Obligation} → Related T s (o ∷ waiting) → eqb (s .opened) 0 ≡ false
 some-open (now-open {n} frame down stands waits) = ne-eqb (suc n) 0 (λ e. omega arith)
 
 -- The steps from number i on, n of them.
