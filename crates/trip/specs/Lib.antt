@@ -14,4 +14,7 @@ pub mod Fits
 pub mod Entries
 pub mod Trip
 pub mod Refused
+pub mod LineRefusals
+pub mod LinePlaces
+pub mod Places
 pub mod Statements

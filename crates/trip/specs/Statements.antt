@@ -1,6 +1,6 @@
 -- The round trip. Over requests: a request without refusal has one text, which reads back. Over calls: what the writer wrote reads back
 -- to the very counts, goal and tables, and what the reader read is written again as the very text. Last, tables are refused at the line
--- where their text is. All of it for all inputs.
+-- where their text is, and a text at the line that met the refusal. All of it for all inputs.
 use Prim.Native.Nat.{ℕ, suc, _≤_}
 use mathlib.Core.Path.{_≡_, sym, _∙_}
 use mathlib.Core.List.{List}
@@ -17,6 +17,7 @@ use Rattle.trip.specs.File.{Unrefused}
 use Rattle.trip.specs.Requests.{text-reads, read-unrefused, read-text}
 use Rattle.trip.specs.Fits.{text-fits}
 use Rattle.trip.specs.Trip.{Fine, checked-fine, fine-checked, write-again, readFor, leftFor, write-then-read, read-then-write}
+use Rattle.trip.specs.Places.{Where, refused-where}
 use Rattle.trip.specs.Refused.{Sayable, lines-refused, text-checked, checked-text, text-unwritten, unwritten-text}
 
 -- A request without refusal (`Unrefused`: each line's own refusal is 0) reads back from its text.
@@ -80,3 +81,8 @@ pub writes-alike :
     → (writing t len ≡ unwritten k (suc i) → readRequest (requestText (requestOf t)) ≡ refused k (suc i)) ×
     (readRequest (requestText (requestOf t)) ≡ refused k i → writing t len ≡ unwritten k i)
 writes-alike t len k i g = (unwritten-text t len k i g, text-unwritten t len k i g)
+
+-- A text refused at a line (`Where`): the line's number is 1 and the LFs before it, what stands before it is whole lines and short of just
+-- that line, or for 6 reads, and whatever stands behind that line the refusal is the same.
+pub placed-right : (s : List ℕ) (k i : ℕ) → readRequest s ≡ refused k i → Where s k i
+placed-right = refused-where

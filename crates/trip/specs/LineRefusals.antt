@@ -1,0 +1,63 @@
+-- The refusals that a line can meet: 2 where it is out of shape or missing; in shape 3, 4 or 5, whichever line it is.
+use Prim.Native.Nat.{ℕ, zero, suc, _<_}
+use mathlib.Core.Path.{_≡_, refl}
+use mathlib.Core.List.{List}
+use mathlib.Core.Bool.{Bool, true, false}
+use native.Mathlib.Omega.{arith}
+use lib.Dec.{leb, ltb}
+use lib.ListN.{length}
+use Rattle.scope.specs.Logic.Form.{both}
+use Rattle.scope.specs.File.Request.{Row, policyClass, goalClass}
+use Rattle.scope.specs.File.Kinds.{Kind, kindIn, operandsOf, formKinds, stepKinds}
+use Rattle.scope.specs.File.Refusals.{demand, inRange, isEarlier, pass, restZero, countRefusal, rowRefusal, formRefusal, stepRefusal, clauseRefusal, goalRefusal}
+
+-- 'number outside its range'; 'formula names itself or a later one'; 'policy line or goal of the wrong class'
+pub data InShape (k : ℕ) : Type 0 where
+  range : k ≡ 3 → InShape k
+  later : k ≡ 4 → InShape k
+  class : k ≡ 5 → InShape k
+
+pub data OfLine (k : ℕ) : Type 0 where
+  shape : k ≡ 2 → OfLine k
+  in-shape : InShape k → OfLine k
+
+-- A refusal of a line in shape, where it has one.
+abbrev pub Mild : ℕ → Type 0
+Mild n = 0 < n → InShape n
+
+mild-none : Mild 0
+mild-none h = absurd (omega arith)
+
+mild-demand : (t : Bool) (k n : ℕ) → InShape k → Mild n → Mild (demand t k n)
+unfolding demand
+mild-demand true k n s m = m
+mild-demand false k n s m = λ h. s
+
+pub count-mild : (least most n : ℕ) → Mild (countRefusal least most n)
+unfolding countRefusal
+count-mild least most n = mild-demand (both (leb least n) (leb n most)) 3 0 (range refl) mild-none
+
+pub row-mild : (ks : List Kind) (principals atoms i : ℕ) (r : Row) → Mild (rowRefusal ks principals atoms i r)
+unfolding rowRefusal
+row-mild ks principals atoms i r =
+    let operands = kindIn ks (r .kind) .operands in
+    mild-demand (ltb (r .kind) (length ks)) 3 _ (range refl)
+    (mild-demand (restZero operands (operandsOf r)) 3 _ (range refl)
+    (mild-demand (pass (inRange principals atoms) operands (operandsOf r)) 3 _ (range refl)
+    (mild-demand (pass (isEarlier i) operands (operandsOf r)) 4 0 (later refl) mild-none)))
+
+pub form-mild : (principals atoms : ℕ) (before : List Row) (r : Row) → Mild (formRefusal principals atoms before r)
+unfolding formRefusal
+form-mild principals atoms before r = row-mild formKinds principals atoms (length before) r
+
+pub step-mild : (r : Row) → Mild (stepRefusal r)
+unfolding stepRefusal
+step-mild r = row-mild stepKinds 0 0 0 r
+
+pub clause-mild : (forms : List Row) (f : ℕ) → Mild (clauseRefusal forms f)
+unfolding clauseRefusal
+clause-mild forms f = mild-demand (ltb f (length forms)) 3 _ (range refl) (mild-demand (policyClass forms f) 5 0 (class refl) mild-none)
+
+pub goal-mild : (forms : List Row) (f : ℕ) → Mild (goalRefusal forms f)
+unfolding goalRefusal
+goal-mild forms f = mild-demand (ltb f (length forms)) 3 _ (range refl) (mild-demand (goalClass forms f) 5 0 (class refl) mild-none)
