@@ -8,15 +8,48 @@ build_oracle() {
     cargo build --release --quiet --manifest-path "$root/oracle/Cargo.toml" --target-dir "$root/oracle/target"
 }
 
+# The number of crates that NAME stands on by crates.txt, itself included.
+crates_under() { # NAME
+    awk -F: -v name="$1" '
+        /^[a-z_]+:/ { below[$1] = $2 }
+        function reach(crate,    words, count, at) {
+            if (!(crate in below) || crate in reached) return
+            reached[crate]
+            all++
+            count = split(below[crate], words, " ")
+            for (at = 1; at <= count; at++) reach(words[at])
+        }
+        END { reach(name); print all + 0 }' "$root/crates.txt"
+}
+
+# Has rt prove a crate and what it stands on (`rt check NAME`, `rt staticlib NAME`). Each crate gets a line on the error output
+# when it is proved: which of how many, its name, the seconds. Where that fails, all that rt said follows.
+prove() { # WORD NAME
+    local log=$root/target/$1.log all now=0 line status
+    all=$(crates_under "$2")
+    mkdir -p "$root/target"
+    echo "proving and building $2 over $((all - 1)) other crates, some minutes from nothing .." >&2
+    (cd "$root" && rt "$1" "$2" 2>&1 </dev/null) | tee "$log" | while IFS= read -r line; do
+        if [[ $line =~ ^rt:\ ([a-z_]+)\ proved\ \((unchanged|[0-9]+\ s) ]]; then
+            now=$((now + 1))
+            [[ ${BASH_REMATCH[2]} == unchanged ]] || echo "proved $now of $all: ${BASH_REMATCH[1]}, ${BASH_REMATCH[2]}" >&2
+        fi
+    done
+    status=${PIPESTATUS[0]}
+    [[ $status == 0 ]] || cat "$log" >&2
+    return "$status"
+}
+
 # Sees to it that target/bin/NAME is there and no older than the crates, and puts the words that run it into
 # `program`. It is run as rt runs it: with the kit's loader and C library, and with the kit's emulator where it has
 # one, on a processor that is not x86-64.
 build_program() { # NAME
     local built=$root/target/bin/$1 guide kit emulator
     if [[ ! -x $built || -n $(find "$root/crates" "$root/crates.txt" -newer "$built" -print -quit) ]]; then
-        echo "proving and building $1, some minutes from nothing .." >&2
-        mkdir -p "$root/target"
-        (cd "$root" && rt check "$1" >target/check.log 2>&1) || { cat "$root/target/check.log" >&2; return 1; }
+        mkdir -p "$root/target" && : >"$root/target/began"
+        prove check "$1" || return 1
+        # What has not changed is not built again, and need not be asked about again.
+        touch -r "$root/target/began" "$built"
     fi
     guide=$(rt doc)
     kit=${guide%/docs/START-HERE.md}/on/$(uname -m)/toolchain
@@ -36,9 +69,7 @@ links_library() {
 build_library() {
     local built=$root/target/staticlib/libperaduksi.a
     if [[ ! -e $built || -n $(find "$root/crates" "$root/crates.txt" -newer "$built" -print -quit) ]]; then
-        echo "proving and building the library, some minutes from nothing .." >&2
-        mkdir -p "$root/target"
-        (cd "$root" && rt staticlib peraduksi >target/library.log 2>&1) || { cat "$root/target/library.log" >&2; return 1; }
+        prove staticlib peraduksi || return 1
     fi
 }
 

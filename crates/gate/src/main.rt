@@ -26,7 +26,14 @@ fn main() {
     let printed = gatelib::gate(&file[..length]);
     let mut text = [0u8; 96];
     let end = shown::put_printed(printed, &mut text);
-    io::write_all(STDOUT_FILENO, &text[..end]);
+    let written = io::write_all(STDOUT_FILENO, &text[..end]);
+    if !written {
+        // An answer that arrives in part, or not at all, is no answer.
+        io::write_all(
+            STDERR_FILENO,
+            b"gate: the answer cannot be written to standard output\n",
+        );
+    }
 }
 
 // Reads until the input ends or the file is full. A read that fails is not the input's end.
