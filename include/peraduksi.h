@@ -1,5 +1,5 @@
 /*
- * The proved gate for programs in C: link libperaduksi.a.
+ * The proved gate for programs in C, on x86-64 Linux: link libperaduksi.a.
  *
  * Every table is lent by the caller as 16-bit numbers, with its length in numbers (not in bytes): 3 a formula (kind
  * and two operands), 1 a policy line, 2 a step (kind and number). A call takes any bytes and any numbers whatever, needs no
@@ -7,7 +7,9 @@
  *
  *   - a pointer points to as many elements as the length after it says, aligned for them, and is never null, not even where
  *     the length is 0;
- *   - what a call writes to overlaps nothing else that the call is given.
+ *   - what a call writes to overlaps nothing else that the call is given;
+ *   - the thread has stack left for the call, PERADUKSI_STACK bytes: a call does not ask whether it has, and one that runs past
+ *     the end of its stack ends the program with a fault. The main thread has it; for a thread of yours see its stack size.
  *
  * No call allocates, keeps anything from one call to the next, or writes anywhere but to what it is lent to write to,
  * so calls on different buffers may run at the same time.
@@ -96,6 +98,11 @@ enum peraduksi_room {
     PERADUKSI_FORMS_ROOM = 3 * PERADUKSI_MOST_FORMULAS,
     PERADUKSI_POLICY_ROOM = PERADUKSI_MOST_POLICY_LINES,
     PERADUKSI_STEPS_ROOM = 2 * PERADUKSI_MOST_STEPS
+};
+
+/* Stack that is enough below any call, in bytes; the gate takes the most, some 52,000. */
+enum peraduksi_stack {
+    PERADUKSI_STACK = 65536
 };
 
 /* The counts and the goal that go with lent tables. */

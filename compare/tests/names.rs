@@ -67,6 +67,11 @@ fn rooms_and_version_of_the_header() {
 }
 
 #[test]
+fn stack_that_a_call_needs() {
+    assert_eq!(named("PERADUKSI_")["STACK"], peraduksi::STACK.to_string());
+}
+
+#[test]
 fn refusals_of_the_document() {
     use peraduksi::Reason;
     let wanted = [

@@ -3,6 +3,9 @@
 //! Tables are lent as 16-bit numbers: 3 a formula (kind and two operands), 1 a policy line, 2 a step (kind and number). A
 //! call takes any bytes and any numbers, needs no check before it, and always ends with one answer.
 //!
+//! The library is for x86-64 Linux. A call allocates nothing and needs [`STACK`] bytes of stack below it, which the main thread and
+//! those of `std::thread` have by default; on a smaller stack it ends the program with a fault.
+//!
 //! ```
 //! let printed = peraduksi::gate(b"version=1\n");
 //! assert_eq!((printed.answer, printed.place, printed.steps), (2, 2, 0));
@@ -23,6 +26,9 @@ pub const STEPS_ROOM: usize = 2 * 2_048;
 
 /// The longest file that is read; room enough for every text that is written.
 pub const MOST_BYTES: usize = 65_536;
+
+/// Stack that is enough below any call, in bytes; the gate takes the most, some 52,000.
+pub const STACK: usize = 64 * 1_024;
 
 /// Reads a request file. Entries past the last one read are 0; after a refusal every table is all 0.
 pub fn read(text: &[u8], forms: &mut [u16], policy: &mut [u16], steps: &mut [u16]) -> Result<Counts, Refusal> {

@@ -1,6 +1,6 @@
 //! Each call once where it grants and once where it refuses, and what it leaves behind.
 
-use peraduksi::{gate, judge, read, write, Counts, Reason, Refusal, FORMS_ROOM, POLICY_ROOM, STEPS_ROOM};
+use peraduksi::{gate, judge, read, write, Counts, Reason, Refusal, FORMS_ROOM, POLICY_ROOM, STACK, STEPS_ROOM};
 
 const GRANTED: &[u8] = include_bytes!("../../examples/granted.req");
 const REFUSED: &[u8] = include_bytes!("../../examples/refused.req");
@@ -60,4 +60,23 @@ fn short_tables_and_short_outputs() {
     assert!(out.iter().all(|&byte| byte == 0));
     let none = judge(counts, &[], &t.policy, &t.steps);
     assert_eq!(none, Err(Refusal { reason: Reason::TableTooShort, place: 0 }));
+}
+
+/// What a thread of `std` itself has on its stack beside the call.
+const AROUND: usize = 16 * 1_024;
+
+#[test]
+fn the_stack_that_is_named_is_enough() {
+    let mut t = lent();
+    let mut out = vec![7; GRANTED.len()];
+    let calls = || {
+        let counts = read_into(&mut t, GRANTED).expect("it reads");
+        let written = write(counts, &t.forms, &t.policy, &t.steps, &mut out);
+        (judge(counts, &t.forms, &t.policy, &t.steps), written, gate(GRANTED).answer, gate(REFUSED).answer)
+    };
+    let got = std::thread::scope(|scope| {
+        let thread = std::thread::Builder::new().stack_size(STACK + AROUND);
+        thread.spawn_scoped(scope, calls).expect("a thread").join().expect("an end")
+    });
+    assert_eq!(got, (Ok(()), Ok(GRANTED.len()), 0, 9));
 }
