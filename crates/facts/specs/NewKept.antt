@@ -42,7 +42,7 @@ closed-more {sh} {fs} {e} f c =
     (λ g p. given (there p)) c
 
 -- The new world's rows, with the given fact e that leads to it.
-pub record Edge (sh : Sheet) (u l up : ℕ) (f : ℕ → ℕ) (fs : List Fact) (e : Fact) (Less : ℕ → Type 0) (Sees : ℕ → ℕ → Type 0) : Type 0 where
+pub record EdgeRows (sh : Sheet) (u l up : ℕ) (f : ℕ → ℕ) (fs : List Fact) (e : Fact) (Less : ℕ → Type 0) (Sees : ℕ → ℕ → Type 0) : Type 0 where
   pub leads : Leads sh u (Closed sh (Among fs)) Less Sees
   pub given-proper : Proper (grown sh) e
   pub given-new : New sh u (Closed sh (Among fs)) Less Sees e
@@ -59,7 +59,7 @@ pub record Edge (sh : Sheet) (u l up : ℕ) (f : ℕ → ℕ) (fs : List Fact) (
 
 module _ {sh : Sheet} {u l up : ℕ} {f : ℕ → ℕ} {fs : List Fact} {e : Fact} {Less : ℕ → Type 0} {Sees : ℕ → ℕ → Type 0} {r s : List ℕ}
     (K : Kept sh fs r) (inside : u < sh .worlds) (small : sh .worlds < worldsMax) (N : NewRows (sh .worlds) u l up f r s)
-    (E : Edge sh u l up f fs e Less Sees) where
+    (E : EdgeRows sh u l up f fs e Less Sees) where
   abbrev C : Fact → Type 0
   C = Closed sh (Among fs)
 

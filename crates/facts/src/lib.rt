@@ -6,14 +6,16 @@ ghost use Rattle.scope.specs.Logic.Facts.{le, by, sf};
 ghost use Rattle.facts.specs.Bits.{when};
 ghost use Rattle.facts.specs.Rows.{rowAt, bitOf, oneBit, byRow, sfRow, told};
 ghost use Rattle.facts.specs.Rows.{sfRows, putSf, speaksIn, rootRows, newWorld, grownLe, grownBy, noted};
+use steps::MOST_PRINCIPALS;
+use steps::MOST_WORLDS;
 use steps::Principal;
 use steps::World;
 
 pub type Row = u32;
 
-pub const WORLDS: usize = 32;
+pub const WORLDS: usize = MOST_WORLDS as usize;
 
-pub const PRINCIPALS: usize = 16;
+pub const PRINCIPALS: usize = MOST_PRINCIPALS as usize;
 
 // The rows that lead to a world: one of ≤, one of its ancestors, PRINCIPALS of S, PRINCIPALS of sf.
 const EACH: usize = 2 + 2 * PRINCIPALS;
@@ -24,7 +26,7 @@ const UP: u16 = 1;
 
 const BY: u16 = 2;
 
-const SF: u16 = 18;
+const SF: u16 = BY + MOST_PRINCIPALS;
 
 pub const ROWS: usize = WORLDS * EACH;
 

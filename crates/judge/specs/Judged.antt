@@ -11,10 +11,9 @@ use Rattle.tables.specs.declared.Checked.the-variants.{Fine, Refused}
 use Rattle.tables.specs.Met.{checkedOf}
 use Rattle.machine.specs.declared.Walked.{Walked}
 use Rattle.machine.specs.declared.Walked.the-variants as walked
-use Rattle.machine.specs.Machine.{ran}
+use Rattle.machine.specs.Machine.{ran, walkedAnswer}
 use Rattle.scope.specs.Tools.Tests.{never}
 use Rattle.trip.specs.Trip.{unmet}
-use Rattle.walks.specs.Ran.{walkedAnswer}
 use Rattle.walks.specs.Simulation.{ran-walks}
 use Rattle.demands.specs.Judged.{judge-law, else-passes, else-refused}
 use Rattle.judge.specs.Answers.{answerOf, refusalAnswer, walkedTo}

@@ -6,7 +6,7 @@ use native.Mathlib.Omega.{arith}
 use lib.ListN.{getD, set, length, replicate}
 use lib.Dec.{eqb}
 use borrow.Author.Tests.{eq-eqb, ne-eqb}
-use Rattle.scope.specs.Limits.{mostOpen}
+use Rattle.scope.specs.Limits.{mostPrincipals, mostOpen}
 use Rattle.facts.specs.Rows.{noted, rootRows}
 use Rattle.steps.specs.declared.Step.{Step}
 use Rattle.steps.specs.Steps.{stepFrom}
@@ -14,17 +14,17 @@ use Rattle.moves.specs.declared.Move.{Move}
 use Rattle.moves.specs.declared.Move.the-variants as move
 use Rattle.moves.specs.declared.Judged.{Judged}
 use Rattle.moves.specs.declared.Judged.the-variants.{Fits, No}
-use Rattle.moves.specs.Steps.{pick}
+use Rattle.moves.specs.Steps.{numberIn, pick}
 use Rattle.moves.specs.Judge.{rowAt, judgeStep}
 use Rattle.moves.specs.Tests.{pick-true, pick-false}
 use Rattle.machine.specs.declared.Obligation.{Obligation}
 use Rattle.machine.specs.declared.Change.{Change}
 use Rattle.machine.specs.declared.Walked.{Walked}
 use Rattle.machine.specs.Change.{chunkCount, goalIn, changeOf}
-use Rattle.machine.specs.Tables.{block, topChunk, chunksAfter, savedAfter, rowsAfter}
+use Rattle.machine.specs.Tables.{clausePlaces, block, topChunk, chunksAfter, savedAfter, rowsAfter}
 use Rattle.machine.specs.Room.{room}
 use Rattle.machine.specs.Machine.{State, nothing, obligationAt, current, stepIn, judgedNow, moved, goOn, refusedAt, endedAt, ranFrom, lineNoted, linesNoted, linesPut, first, firstStack, begun, ran}
-use Rattle.machine.specs.Turn.{numberIn, stackOf, stateOf}
+use Rattle.machine.specs.Turn.{stackOf, stateOf}
 
 -- One step of the definition, and none.
 ran-suc : (forms steps : List ℕ) (k i : ℕ) (s : State) →
@@ -157,7 +157,7 @@ pub record Written (s : State) (m : Move) (o next : Obligation) (top : ℕ) (mad
   pub under : next ≡ obligationAt s (s .opened - 2)
   pub change : made ≡ changeOf m o (s .opened)
   pub kept : saved ≡ savedAfter (s .opened) (made .opened) (s .rows) (o .worlds) (s .stack .saved)
-  pub facts : rows ≡ rowsAfter m o next (block saved (s .opened - 2)) (s .rows)
+  pub facts : rows ≡ rowsAfter m o next (block mostPrincipals saved (s .opened - 2)) (s .rows)
   pub held : chunks ≡ chunksAfter m (chunkCount (o .phase)) (s .opened - 1) (s .stack .chunks)
   pub clause : clauses ≡ set (s .clauses) (o .clauses) top
   pub world : ats ≡ set (s .ats) (o .clauses) (goalIn (o .phase) .at .0)
@@ -205,12 +205,12 @@ turn-on forms steps n i s whole m o next top j made rows chunks saved clauses at
 
 -- The first state.
 pub ran-is : (forms lines steps : List ℕ) (count goal n : ℕ) (rows clauses : List ℕ) (o : Obligation) (answer : Walked) →
-    rows ≡ linesNoted forms lines count rootRows → clauses ≡ linesPut lines count (replicate 257 0) → o ≡ first goal count →
-    answer ≡ ranFrom forms steps n 0 (stateOf rows (firstStack o) 1 clauses (replicate 257 0)) →
+    rows ≡ linesNoted forms lines count rootRows → clauses ≡ linesPut lines count (replicate clausePlaces 0) → o ≡ first goal count →
+    answer ≡ ranFrom forms steps n 0 (stateOf rows (firstStack o) 1 clauses (replicate clausePlaces 0)) →
     answer ≡ ran forms lines steps count goal n
 unfolding ran begun
 ran-is forms lines steps count goal n rows clauses o answer er ec eo e =
-    e ∙ ap (λ (x : List ℕ). ranFrom forms steps n 0 (stateOf x (firstStack o) 1 clauses (replicate 257 0))) er ∙
-    ap (λ (x : List ℕ). ranFrom forms steps n 0 (stateOf (linesNoted forms lines count rootRows) (firstStack o) 1 x (replicate 257 0))) ec ∙
+    e ∙ ap (λ (x : List ℕ). ranFrom forms steps n 0 (stateOf x (firstStack o) 1 clauses (replicate clausePlaces 0))) er ∙
+    ap (λ (x : List ℕ). ranFrom forms steps n 0 (stateOf (linesNoted forms lines count rootRows) (firstStack o) 1 x (replicate clausePlaces 0))) ec ∙
     ap (λ (x : Obligation). ranFrom forms steps n 0
-    (stateOf (linesNoted forms lines count rootRows) (firstStack x) 1 (linesPut lines count (replicate 257 0)) (replicate 257 0))) eo
+    (stateOf (linesNoted forms lines count rootRows) (firstStack x) 1 (linesPut lines count (replicate clausePlaces 0)) (replicate clausePlaces 0))) eo

@@ -3,6 +3,8 @@ use Prim.Native.Nat.{ℕ, zero, suc, _+_, _-_, _*_}
 use mathlib.Core.List.{List}
 use lib.ListN.{getD, set, replicate}
 use lib.Dec.{eqb}
+use Rattle.scope.specs.Limits.{mostPrincipals, mostChunks}
+use Rattle.scope.specs.Call.Answer.{Answer, answer}
 use Rattle.facts.specs.Rows.{rootRows, noted}
 use Rattle.moves.specs.declared.Phase.the-variants as phase
 use Rattle.moves.specs.declared.Move.{Move}
@@ -16,7 +18,7 @@ use Rattle.machine.specs.declared.Obligation.{Obligation}
 use Rattle.machine.specs.declared.Walked.{Walked}
 use Rattle.machine.specs.declared.Walked.the-variants.{Granted, Refused}
 use Rattle.machine.specs.Change.{lab, chunkCount, goalIn, changeOf}
-use Rattle.machine.specs.Tables.{block, topChunk, chunksAfter, savedAfter, rowsAfter}
+use Rattle.machine.specs.Tables.{places, clausePlaces, block, topChunk, chunksAfter, savedAfter, rowsAfter}
 
 -- What the walk writes in place: the rows of facts; the open obligations, the last opened of which is the current one, with their chunks
 -- and saved rows; and the clauses.
@@ -55,7 +57,7 @@ moved s m =
     let c = changeOf m o (s .opened) in
     let saved = savedAfter (s .opened) (c .opened) (s .rows) (o .worlds) (s .stack .saved) in
     record {
-      rows = rowsAfter m o (obligationAt s (s .opened - 2)) (block saved (s .opened - 2)) (s .rows);
+      rows = rowsAfter m o (obligationAt s (s .opened - 2)) (block mostPrincipals saved (s .opened - 2)) (s .rows);
       stack = record {
         obligations = set (set (s .stack .obligations) (s .opened) (c .upper)) (s .opened - 1) (c .lower);
         chunks = chunksAfter m (chunkCount (o .phase)) (s .opened - 1) (s .stack .chunks);
@@ -111,7 +113,8 @@ unfoldable pub first : ℕ → ℕ → Obligation
 first goal count = record { phase = phase.Goal (lab goal 0); worlds = 1; clauses = count }
 
 abbrev pub firstStack : Obligation → Stack
-firstStack o = record { obligations = replicate 257 o; chunks = replicate 4112 0; saved = replicate 4112 0 }
+firstStack o =
+    record { obligations = replicate places o; chunks = replicate (places * mostChunks) 0; saved = replicate (places * mostPrincipals) 0 }
 
 unfoldable pub begun : List ℕ → List ℕ → ℕ → ℕ → State
 unfolding first linesNoted linesPut rootRows
@@ -120,11 +123,16 @@ begun forms lines count goal =
       rows = linesNoted forms lines count rootRows;
       stack = firstStack (first goal count);
       opened = 1;
-      clauses = linesPut lines count (replicate 257 0);
-      ats = replicate 257 0;
+      clauses = linesPut lines count (replicate clausePlaces 0);
+      ats = replicate clausePlaces 0;
     }
 
 -- The answer about the steps, for any tables and counts.
 unfoldable pub ran : List ℕ → List ℕ → List ℕ → ℕ → ℕ → ℕ → Walked
 unfolding ranFrom begun
 ran forms lines steps count goal stepCount = ranFrom forms steps stepCount 0 (begun forms lines count goal)
+
+-- Document 01's number and place for each of the walk's answers.
+unfoldable pub walkedAnswer : Walked → Answer
+walkedAnswer Granted = answer 0 0
+walkedAnswer (Refused r) = answer (r .number) (r .step)

@@ -1,9 +1,10 @@
--- The chunks, and the saved rows of sf, of the open obligations, 16 entries of a table for each; and what a move makes of them and of the
--- rows of facts.
+-- The chunks, and the saved rows of sf, of the open obligations, as many entries of a table for each as an obligation may have chunks, or a
+-- world rows of sf; and what a move makes of them and of the rows of facts.
 use Prim.Native.Nat.{ℕ, _+_, _-_, _*_}
 use mathlib.Core.List.{List}
 use lib.ListN.{getD, set, replicate}
 use lib.Dec.{leb}
+use Rattle.scope.specs.Limits.{mostPrincipals, mostClauses, mostOpen, mostChunks}
 use Rattle.facts.specs.Fill.{fill}
 use Rattle.facts.specs.Rows.{sfRows, putSf, grownLe, grownBy, noted}
 use Rattle.moves.specs.declared.Phase.{Phase}
@@ -13,29 +14,36 @@ use Rattle.moves.specs.Steps.{pick}
 use Rattle.machine.specs.declared.Obligation.{Obligation}
 use Rattle.machine.specs.Change.{chunkCount, goalIn}
 
--- The entries of the obligation at a place, and a table with such entries put there.
-unfoldable pub block : List ℕ → ℕ → List ℕ
-unfolding fill
-block l place = fill (λ i. getD l (place * 16 + i) 0) 0 16 (replicate 16 0)
+-- The open obligations, and one place more, which is never read; and the same of the clauses.
+abbrev pub places : ℕ
+places = mostOpen + 1
 
-unfoldable pub putBlock : List ℕ → ℕ → List ℕ → List ℕ
+abbrev pub clausePlaces : ℕ
+clausePlaces = mostClauses + 1
+
+-- Of w entries for each place, those at a place, and a table with such entries put there.
+unfoldable pub block : ℕ → List ℕ → ℕ → List ℕ
 unfolding fill
-putBlock l place held = fill (λ i. getD held i 0) (place * 16) 16 l
+block w l place = fill (λ i. getD l (place * w + i) 0) 0 w (replicate w 0)
+
+unfoldable pub putBlock : ℕ → List ℕ → ℕ → List ℕ → List ℕ
+unfolding fill
+putBlock w l place held = fill (λ i. getD held i 0) (place * w) w l
 
 -- The topmost chunk.
 unfoldable pub topChunk : List ℕ → ℕ → Phase → ℕ
 unfolding chunkCount
-topChunk l place p = getD l (place * 16 + (chunkCount p - 1)) 0
+topChunk l place p = getD l (place * mostChunks + (chunkCount p - 1)) 0
 
 -- Of n chunks, two in the topmost one's place, f on top of h.
 unfoldable pub splitChunks : List ℕ → ℕ → ℕ → ℕ → ℕ → List ℕ
-splitChunks l place n f h = set (set l (place * 16 + (n - 1)) h) (place * 16 + n) f
+splitChunks l place n f h = set (set l (place * mostChunks + (n - 1)) h) (place * mostChunks + n) f
 
 -- The same chunks one place above, and another topmost one in each.
 unfoldable pub caseChunks : List ℕ → ℕ → ℕ → ℕ → ℕ → List ℕ
 unfolding block putBlock
 caseChunks l place n f h =
-    set (set (putBlock l (place + 1) (block l place)) (place * 16 + (n - 1)) h) ((place + 1) * 16 + (n - 1)) f
+    set (set (putBlock mostChunks l (place + 1) (block mostChunks l place)) (place * mostChunks + (n - 1)) h) ((place + 1) * mostChunks + (n - 1)) f
 
 unfoldable pub chunksAfter : Move → ℕ → ℕ → List ℕ → List ℕ
 unfolding splitChunks caseChunks
@@ -44,7 +52,7 @@ chunksAfter (move.Go f) n place l = l
 chunksAfter (move.Aim f v) n place l = l
 chunksAfter (move.Both f h) n place l = l
 chunksAfter (move.Meet f h v) n place l = l
-chunksAfter (move.Less f h) n place l = set l (place * 16 + 0) f
+chunksAfter (move.Less f h) n place l = set l (place * mostChunks + 0) f
 chunksAfter (move.Speak a f) n place l = l
 chunksAfter move.Push n place l = l
 chunksAfter move.Drop n place l = l
@@ -55,7 +63,7 @@ chunksAfter (move.Case f h) n place l = caseChunks l place n f h
 -- Where one more is open, the one below it waits with the rows of sf of its newest world.
 unfoldable pub savedAfter : ℕ → ℕ → List ℕ → ℕ → List ℕ → List ℕ
 unfolding pick putBlock sfRows
-savedAfter opened more rows worlds saved = pick (leb more opened) saved (putBlock saved (opened - 1) (sfRows rows (worlds - 1)))
+savedAfter opened more rows worlds saved = pick (leb more opened) saved (putBlock mostPrincipals saved (opened - 1) (sfRows rows (worlds - 1)))
 
 -- The rows of facts: a new world, a note, or the saved rows of sf of the obligation that is current next.
 unfoldable pub rowsAfter : Move → Obligation → Obligation → List ℕ → List ℕ → List ℕ

@@ -1,14 +1,8 @@
--- What the contracts of a turn cite besides the walk: the number of a refusal, and the state by its parts.
+-- What the contracts of a turn cite besides the walk: the state by its parts.
 use Prim.Native.Nat.{ℕ}
 use mathlib.Core.List.{List}
-use Rattle.moves.specs.declared.Judged.{Judged}
-use Rattle.moves.specs.declared.Judged.the-variants.{Fits, No}
 use Rattle.machine.specs.declared.Obligation.{Obligation}
 use Rattle.machine.specs.Machine.{Stack, State}
-
-unfoldable pub numberIn : Judged → ℕ
-numberIn (Fits m) = 0
-numberIn (No k) = k
 
 abbrev pub stackOf : List Obligation → List ℕ → List ℕ → Stack
 stackOf obligations chunks saved = record { obligations = obligations; chunks = chunks; saved = saved }

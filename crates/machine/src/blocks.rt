@@ -1,11 +1,12 @@
-// The chunks, and the saved rows of sf, of the open obligations: 16 entries of a table for each, by its place; and what a move makes of
-// them and of the rows of facts.
+// The chunks, and the saved rows of sf, of the open obligations: a table of each, with as many entries for every place as an obligation may
+// have chunks, or a world rows of sf; and what a move makes of them and of the rows of facts.
 ghost use mathlib.Core.Path.{_≡_};
 ghost use Prim.Native.Nat.{_+_, _-_, _*_, _<_};
 ghost use lib.ListN.{set};
 ghost use Rattle.facts.specs.Rows.{putSf, grownLe, grownBy, noted};
 ghost use Rattle.machine.specs.Change.{chunkCount, goalIn};
-ghost use Rattle.machine.specs.Tables.{block, putBlock, topChunk, splitChunks, caseChunks, chunksAfter, savedAfter, rowsAfter};
+ghost use Rattle.scope.specs.Limits.{mostPrincipals, mostOpen, mostChunks};
+ghost use Rattle.machine.specs.Tables.{places, block, putBlock, topChunk, splitChunks, caseChunks, chunksAfter, savedAfter, rowsAfter};
 use crate::CHUNKS;
 use crate::Obligation;
 use crate::changes;
@@ -14,18 +15,21 @@ use facts::ROWS;
 use facts::Row;
 use moves::Move;
 use moves::judging;
+use steps::MOST_OPEN;
 use steps::Principal;
 use steps::World;
 
-// The open obligations, and one place more, which is never read; and 16 entries for each.
-pub(crate) const OPENED: usize = 257;
+// The open obligations, and one place more, which is never read; and the entries of the two tables.
+pub(crate) const OPENED: usize = MOST_OPEN as usize + 1;
 
-pub(crate) const ENTRIES: usize = 4112;
+pub(crate) const HELD: usize = OPENED * CHUNKS;
+
+pub(crate) const SAVED: usize = OPENED * PRINCIPALS;
 
 // The chunks of the obligation at a place.
-fn chunks_at(t: &[u16; ENTRIES], place: u16) -> [u16; CHUNKS]
-    requires { ⌜ place < 257 ⌝ }
-    ensures { λ r. ⌜ r ≡ block (now (t .entry)) place ⌝ }
+fn chunks_at(t: &[u16; HELD], place: u16) -> [u16; CHUNKS]
+    requires { ⌜ place < places ⌝ }
+    ensures { λ r. ⌜ r ≡ block mostChunks (now (t .entry)) place ⌝ }
 {
     let at = place as usize * CHUNKS;
     let mut held = [0; CHUNKS];
@@ -35,9 +39,9 @@ fn chunks_at(t: &[u16; ENTRIES], place: u16) -> [u16; CHUNKS]
     held
 }
 
-fn put_chunks(t: &mut [u16; ENTRIES], place: u16, held: [u16; CHUNKS])
-    requires { ⌜ place < 257 ⌝ }
-    ensures { λ _. ⌜ now (t .exit) ≡ putBlock (now (t .entry)) place held ⌝ }
+fn put_chunks(t: &mut [u16; HELD], place: u16, held: [u16; CHUNKS])
+    requires { ⌜ place < places ⌝ }
+    ensures { λ _. ⌜ now (t .exit) ≡ putBlock mostChunks (now (t .entry)) place held ⌝ }
 {
     let at = place as usize * CHUNKS;
     for i in 0..CHUNKS {
@@ -46,9 +50,9 @@ fn put_chunks(t: &mut [u16; ENTRIES], place: u16, held: [u16; CHUNKS])
 }
 
 // The saved rows of the obligation at a place.
-fn saved_at(t: &[Row; ENTRIES], place: u16) -> [Row; PRINCIPALS]
-    requires { ⌜ place < 257 ⌝ }
-    ensures { λ r. ⌜ r ≡ block (now (t .entry)) place ⌝ }
+fn saved_at(t: &[Row; SAVED], place: u16) -> [Row; PRINCIPALS]
+    requires { ⌜ place < places ⌝ }
+    ensures { λ r. ⌜ r ≡ block mostPrincipals (now (t .entry)) place ⌝ }
 {
     let at = place as usize * PRINCIPALS;
     let mut saved = [0; PRINCIPALS];
@@ -58,9 +62,9 @@ fn saved_at(t: &[Row; ENTRIES], place: u16) -> [Row; PRINCIPALS]
     saved
 }
 
-fn put_saved(t: &mut [Row; ENTRIES], place: u16, saved: [Row; PRINCIPALS])
-    requires { ⌜ place < 257 ⌝ }
-    ensures { λ _. ⌜ now (t .exit) ≡ putBlock (now (t .entry)) place saved ⌝ }
+fn put_saved(t: &mut [Row; SAVED], place: u16, saved: [Row; PRINCIPALS])
+    requires { ⌜ place < places ⌝ }
+    ensures { λ _. ⌜ now (t .exit) ≡ putBlock mostPrincipals (now (t .entry)) place saved ⌝ }
 {
     let at = place as usize * PRINCIPALS;
     for i in 0..PRINCIPALS {
@@ -70,12 +74,12 @@ fn put_saved(t: &mut [Row; ENTRIES], place: u16, saved: [Row; PRINCIPALS])
 
 // The entry of chunk number i of the obligation at a place.
 fn entry_of(place: u16, i: u16) -> usize
-    ensures { λ r. ⌜ r ≡ place * 16 + i ⌝ }
+    ensures { λ r. ⌜ r ≡ place * mostChunks + i ⌝ }
 {
     place as usize * CHUNKS + i as usize
 }
 
-pub(crate) fn top_chunk(chunks: &[u16; ENTRIES], place: u16, o: Obligation) -> u16
+pub(crate) fn top_chunk(chunks: &[u16; HELD], place: u16, o: Obligation) -> u16
     ensures { λ r. ⌜ r ≡ topChunk (now (chunks .entry)) place (o .phase) ⌝ }
 {
     let i = changes::top_place(o);
@@ -83,15 +87,15 @@ pub(crate) fn top_chunk(chunks: &[u16; ENTRIES], place: u16, o: Obligation) -> u
     judging::entry(chunks, at)
 }
 
-fn put_chunk(chunks: &mut [u16; ENTRIES], place: u16, i: u16, f: u16)
-    ensures { λ _. ⌜ now (chunks .exit) ≡ set (now (chunks .entry)) (place * 16 + i) f ⌝ }
+fn put_chunk(chunks: &mut [u16; HELD], place: u16, i: u16, f: u16)
+    ensures { λ _. ⌜ now (chunks .exit) ≡ set (now (chunks .entry)) (place * mostChunks + i) f ⌝ }
 {
     let at = entry_of(place, i);
     changes::put_entry(chunks, at, f);
 }
 
 // Two chunks in the topmost one's place, f on top of h.
-fn split_top(chunks: &mut [u16; ENTRIES], place: u16, n: u16, f: u16, h: u16)
+fn split_top(chunks: &mut [u16; HELD], place: u16, n: u16, f: u16, h: u16)
     ensures { λ _. ⌜ now (chunks .exit) ≡ splitChunks (now (chunks .entry)) place n f h ⌝ }
 {
     let i = changes::less_by(n, 1);
@@ -100,8 +104,8 @@ fn split_top(chunks: &mut [u16; ENTRIES], place: u16, n: u16, f: u16, h: u16)
 }
 
 // The same chunks one place above, and another topmost one in each.
-fn case_top(chunks: &mut [u16; ENTRIES], place: u16, n: u16, f: u16, h: u16)
-    requires { ⌜ place < 256 ⌝ }
+fn case_top(chunks: &mut [u16; HELD], place: u16, n: u16, f: u16, h: u16)
+    requires { ⌜ place < mostOpen ⌝ }
     ensures { λ _. ⌜ now (chunks .exit) ≡ caseChunks (now (chunks .entry)) place n f h ⌝ }
 {
     let held = chunks_at(chunks, place);
@@ -112,8 +116,8 @@ fn case_top(chunks: &mut [u16; ENTRIES], place: u16, n: u16, f: u16, h: u16)
     put_chunk(chunks, above, i, f);
 }
 
-fn move_chunks(chunks: &mut [u16; ENTRIES], m: Move, o: Obligation, place: u16)
-    requires { ⌜ place < 256 ⌝ }
+fn move_chunks(chunks: &mut [u16; HELD], m: Move, o: Obligation, place: u16)
+    requires { ⌜ place < mostOpen ⌝ }
     ensures { λ _. ⌜ now (chunks .exit) ≡ chunksAfter m (chunkCount (o .phase)) place (now (chunks .entry)) ⌝ }
 {
     let phase = o.phase;
@@ -135,8 +139,8 @@ fn move_chunks(chunks: &mut [u16; ENTRIES], m: Move, o: Obligation, place: u16)
 }
 
 // Where one more is open, the one below it waits with the rows of sf of its newest world.
-fn save_rows(saved: &mut [Row; ENTRIES], rows: &[Row; ROWS], o: Obligation, opened: u16, more: u16)
-    requires { ⌜ opened < 257 ⌝ }
+fn save_rows(saved: &mut [Row; SAVED], rows: &[Row; ROWS], o: Obligation, opened: u16, more: u16)
+    requires { ⌜ opened < places ⌝ }
     ensures { λ _. ⌜ now (saved .exit) ≡ savedAfter opened more (now (rows .entry)) (o .worlds) (now (saved .entry)) ⌝ }
 {
     if opened < more {
@@ -148,9 +152,9 @@ fn save_rows(saved: &mut [Row; ENTRIES], rows: &[Row; ROWS], o: Obligation, open
 }
 
 // The rows of facts: the saved rows of sf of the obligation that is current next, a new world, or a note.
-fn put_back(rows: &mut [Row; ROWS], saved: &[Row; ENTRIES], next: Obligation, below: u16)
-    requires { ⌜ below < 257 ⌝ }
-    ensures { λ _. ⌜ now (rows .exit) ≡ putSf (now (rows .entry)) (next .worlds - 1) (block (now (saved .entry)) below) ⌝ }
+fn put_back(rows: &mut [Row; ROWS], saved: &[Row; SAVED], next: Obligation, below: u16)
+    requires { ⌜ below < places ⌝ }
+    ensures { λ _. ⌜ now (rows .exit) ≡ putSf (now (rows .entry)) (next .worlds - 1) (block mostPrincipals (now (saved .entry)) below) ⌝ }
 {
     let m = changes::less_by(next.worlds, 1);
     let kept = saved_at(saved, below);
@@ -186,14 +190,14 @@ fn note_newest(rows: &mut [Row; ROWS], a: Principal, b: Principal, o: Obligation
 
 fn move_rows(
     rows: &mut [Row; ROWS],
-    saved: &[Row; ENTRIES],
+    saved: &[Row; SAVED],
     m: Move,
     o: Obligation,
     next: Obligation,
     below: u16,
 )
-    requires { ⌜ below < 257 ⌝ }
-    ensures { λ _. ⌜ now (rows .exit) ≡ rowsAfter m o next (block (now (saved .entry)) below) (now (rows .entry)) ⌝ }
+    requires { ⌜ below < places ⌝ }
+    ensures { λ _. ⌜ now (rows .exit) ≡ rowsAfter m o next (block mostPrincipals (now (saved .entry)) below) (now (rows .entry)) ⌝ }
 {
     match m {
         Move::Close => put_back(rows, saved, next, below),
@@ -214,17 +218,17 @@ fn move_rows(
 // What a move writes into the chunks, the saved rows and the rows of facts, where opened are open, and more are after it.
 pub(crate) fn move_tables(
     rows: &mut [Row; ROWS],
-    chunks: &mut [u16; ENTRIES],
-    saved: &mut [Row; ENTRIES],
+    chunks: &mut [u16; HELD],
+    saved: &mut [Row; SAVED],
     m: Move,
     o: Obligation,
     next: Obligation,
     opened: u16,
     more: u16,
 )
-    requires { ⌜ opened < 257 ⌝ }
+    requires { ⌜ opened < places ⌝ }
     ensures { λ _. ⌜ now (saved .exit) ≡ savedAfter opened more (now (rows .entry)) (o .worlds) (now (saved .entry)) ⌝ }
-    ensures { λ _. ⌜ now (rows .exit) ≡ rowsAfter m o next (block (now (saved .exit)) (opened - 2)) (now (rows .entry)) ⌝ }
+    ensures { λ _. ⌜ now (rows .exit) ≡ rowsAfter m o next (block mostPrincipals (now (saved .exit)) (opened - 2)) (now (rows .entry)) ⌝ }
     ensures { λ _. ⌜ now (chunks .exit) ≡ chunksAfter m (chunkCount (o .phase)) (opened - 1) (now (chunks .entry)) ⌝ }
 {
     let place = changes::less_by(opened, 1);

@@ -1,5 +1,6 @@
 // The walk through the steps over tables of the open obligations, written in place.
 use moves::Phase;
+use steps::MOST_CHUNKS;
 
 mod begin;
 mod blocks;
@@ -7,7 +8,7 @@ mod changes;
 pub mod walking;
 
 // Chunks of an obligation, one place for each.
-pub const CHUNKS: usize = 16;
+pub const CHUNKS: usize = MOST_CHUNKS as usize;
 
 // An open obligation: its phase, and the worlds and clauses of its sequent. Its chunks, and, where it waits, the rows of sf of its newest
 // world as they stood when it was made, are in tables of their own, at its place among the open ones.
@@ -28,11 +29,11 @@ pub struct Change {
 // The answer about the steps.
 pub enum Walked {
     Granted,
-    Refused(Refusal),
+    Refused(StepRefusal),
 }
 
-// The step is wider than a count of steps, so that the one after the last has a number for every count.
-pub struct Refusal {
+// The number of a refusal, and the step that it names. The step is wider than a count of steps, so that the one after the last has a number for every count.
+pub struct StepRefusal {
     pub number: u16,
     pub step: u32,
 }

@@ -1,17 +1,19 @@
 // The walk: each step is judged on the current obligation and its move written in place; the first refusal is the answer.
 ghost use mathlib.Core.Path.{_≡_};
 ghost use lib.ListN.{set};
+ghost use Rattle.moves.specs.Steps.{numberIn};
 ghost use Rattle.moves.specs.Judge.{judgeStep};
 ghost use Rattle.machine.specs.Change.{goalIn};
 ghost use Rattle.machine.specs.Machine.{stepIn, refusedAt, endedAt, firstStack, ranFrom, ran};
-ghost use Rattle.machine.specs.Turn.{numberIn, stateOf};
+ghost use Rattle.machine.specs.Turn.{stateOf};
 use crate::Obligation;
-use crate::Refusal;
+use crate::StepRefusal;
 use crate::Walked;
 use crate::begin;
 use crate::blocks;
-use crate::blocks::ENTRIES;
+use crate::blocks::HELD;
 use crate::blocks::OPENED;
+use crate::blocks::SAVED;
 use crate::changes;
 use facts::ROWS;
 use facts::Row;
@@ -33,7 +35,7 @@ fn refused_at(number: u16, i: u16) -> Walked
     ensures { λ r. ⌜ r ≡ refusedAt number i ⌝ }
 {
     let step = i as u32 + 1;
-    Walked::Refused(Refusal { number, step })
+    Walked::Refused(StepRefusal { number, step })
 }
 
 fn number_in(j: Judged) -> u16
@@ -113,8 +115,8 @@ fn run_steps(
     ensures { λ r. ⌜ r ≡ ranFrom (now (forms .entry)) (now (steps .entry)) total 0 (stateOf (now (rows .entry)) (firstStack begun) 1 (now (clauses .entry)) (now (ats .entry))) ⌝ }
 {
     let mut stack = [begun; OPENED];
-    let mut chunks = [0; ENTRIES];
-    let mut saved = [0; ENTRIES];
+    let mut chunks = [0; HELD];
+    let mut saved = [0; SAVED];
     let mut opened: u16 = 1;
     for i in 0..total {
         if opened == 0 {

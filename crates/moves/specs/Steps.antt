@@ -17,6 +17,11 @@ use Rattle.moves.specs.declared.Move.the-variants as move
 use Rattle.moves.specs.declared.Judged.{Judged}
 use Rattle.moves.specs.declared.Judged.the-variants.{Fits, No}
 
+-- Document 01's number of what a step comes to, 0 where it fits.
+unfoldable pub numberIn : Judged → ℕ
+numberIn (Fits m) = 0
+numberIn (No k) = k
+
 -- Shut, so that its two laws fit.
 unfoldable pub pick : {A : Type 0} → Bool → A → A → A
 pick true x y = x

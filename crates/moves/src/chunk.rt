@@ -2,11 +2,11 @@
 ghost use mathlib.Core.Path.{_≡_};
 ghost use Rattle.moves.specs.Steps.{pushedKind, pushStep, splitStep, caseStep, absurdStep, dropStep, noteStep};
 use crate::Judged;
-use crate::MOST_CHUNKS;
-use crate::MOST_CLAUSES;
-use crate::MOST_OPEN;
 use crate::Move;
 use crate::Row;
+use steps::MOST_CHUNKS;
+use steps::MOST_CLAUSES;
+use steps::MOST_OPEN;
 use steps::Principal;
 
 // An atom, `imp` or `says`.

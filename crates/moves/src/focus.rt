@@ -2,10 +2,10 @@
 ghost use mathlib.Core.Path.{_≡_};
 ghost use Rattle.moves.specs.Steps.{leftStep, rightStep, toImp, toSays, toStep, hitStep};
 use crate::Judged;
-use crate::MOST_OPEN;
 use crate::Move;
 use crate::Row;
 use facts::ROWS;
+use steps::MOST_OPEN;
 use steps::Principal;
 use steps::World;
 

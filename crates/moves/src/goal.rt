@@ -3,11 +3,11 @@ ghost use mathlib.Core.Path.{_≡_};
 ghost use Rattle.moves.specs.Steps.{andStep, or1Step, or2Step, impStep, saysStep, topStep, sfStep, useStep};
 use crate::Found;
 use crate::Judged;
-use crate::MOST_OPEN;
-use crate::MOST_WORLDS;
 use crate::Move;
 use crate::Row;
 use facts::ROWS;
+use steps::MOST_OPEN;
+use steps::MOST_WORLDS;
 use steps::Principal;
 use steps::World;
 

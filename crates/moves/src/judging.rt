@@ -12,11 +12,12 @@ use crate::focus;
 use crate::goal;
 use facts::ROWS;
 use steps::Clause;
+use steps::MOST_CLAUSES;
 use steps::Step;
 use steps::World;
 
 // The clauses of a sequent by their numbers, policy lines first; one place more, which is never read.
-pub const CLAUSES: usize = 257;
+pub const CLAUSES: usize = MOST_CLAUSES as usize + 1;
 
 // An entry of a table, 0 past its end.
 pub fn entry(t: &[u16], i: usize) -> u16

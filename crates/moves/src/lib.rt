@@ -7,15 +7,6 @@ mod focus;
 mod goal;
 pub mod judging;
 
-// What a sequent and its obligations may have at most.
-const MOST_WORLDS: u16 = 32;
-
-const MOST_CLAUSES: u16 = 256;
-
-const MOST_OPEN: u16 = 256;
-
-const MOST_CHUNKS: u16 = 16;
-
 // A row of the formula table.
 pub struct Row {
     pub kind: u16,

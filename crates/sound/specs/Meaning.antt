@@ -32,21 +32,21 @@ put-inside n ρ w v i h x = elim (eqb x w) as (λ (t : Bool). elim t [ true ↦ 
 
 -- A derived u S_A v is read as: some world that S_A reaches from ρ u stands below ρ v. Definition 1 does not ask that S_A itself reach
 -- up to ρ v, and what holds there by `says` does not need it (`mono`).
-pub record Reach (m : Model) (a x y : ℕ) : Type 0 where
+pub record SeesBelow (m : Model) (a x y : ℕ) : Type 0 where
   pub mid : ℕ
   pub inside : mid < m .worlds
   pub step : m .acc a x mid ≡ true
   pub below : m .le mid y ≡ true
 
-pub again : {m : Model} {a b x y z : ℕ} (c : Reach m a x y) → m .acc b z (c .mid) ≡ true → Reach m b z y
+pub again : {m : Model} {a b x y z : ℕ} (c : SeesBelow m a x y) → m .acc b z (c .mid) ≡ true → SeesBelow m b z y
 again c e = record { mid = c .mid; inside = c .inside; step = e; below = c .below }
 
 module _ (k n : ℕ) (m : Model) where
   -- A fact of a sequent with w worlds, whose worlds ρ takes to worlds of the model. Its bounds are part of its meaning.
-  abbrev pub Holds : ℕ → (ℕ → ℕ) → Fact → Type 0
-  Holds w ρ (le u v) = (u < w) × (v < w) × (m .le (ρ u) (ρ v) ≡ true)
-  Holds w ρ (by a u v) = (a < k) × (u < w) × (v < w) × Reach m a (ρ u) (ρ v)
-  Holds w ρ (sf u a b) = (a < k) × (b < k) × (u < w) × (m .speaks a b (ρ u) ≡ true)
+  abbrev pub HoldsAt : ℕ → (ℕ → ℕ) → Fact → Type 0
+  HoldsAt w ρ (le u v) = (u < w) × (v < w) × (m .le (ρ u) (ρ v) ≡ true)
+  HoldsAt w ρ (by a u v) = (a < k) × (u < w) × (v < w) × SeesBelow m a (ρ u) (ρ v)
+  HoldsAt w ρ (sf u a b) = (a < k) × (b < k) × (u < w) × (m .speaks a b (ρ u) ≡ true)
 
   -- A labelled formula is in its bounds, and holds at its world.
   abbrev pub AtWorlds : ℕ → Lab → Type 0
@@ -59,7 +59,7 @@ module _ (k n : ℕ) (m : Model) where
   pub record Respects (s : Sequent) (ρ : ℕ → ℕ) : Type 0 where
     pub counted : s .sheet .principals ≡ k
     pub inside : (x : ℕ) → ρ x < m .worlds
-    pub facts : All (Holds (s .sheet .worlds) ρ) (s .facts)
+    pub facts : All (HoldsAt (s .sheet .worlds) ρ) (s .facts)
     pub clauses : All (λ (l : Lab). AtWorlds (s .sheet .worlds) l × Meets ρ l) (s .clauses)
 
   -- A goal is met. With chunks: where they hold, the goal is met. In focus: the subgoals are met, and where the clause holds, so does
@@ -79,7 +79,7 @@ module _ (k n : ℕ) (m : Model) where
   -- What is so for every model, whatever its frame: the sequent grows, and ρ with it.
 
   -- A new world of the sequent at the world v of the model changes nothing at the older ones.
-  older-fact : (w : ℕ) (ρ : ℕ → ℕ) (v : ℕ) (f : Fact) → Holds w ρ f → Holds (suc w) (put ρ w v) f
+  older-fact : (w : ℕ) (ρ : ℕ → ℕ) (v : ℕ) (f : Fact) → HoldsAt w ρ f → HoldsAt (suc w) (put ρ w v) f
   older-fact w ρ v (le x y) h =
       (omega arith, omega arith, rw (put-other ρ w v x (h .0), put-other ρ w v y (h .1)) (h .2))
   older-fact w ρ v (by a x y) h =
@@ -92,13 +92,13 @@ module _ (k n : ℕ) (m : Model) where
       ((omega arith, h .0 .1), rw (put-other ρ w v (l .at) i) (h .1))
 
   pub with-world : (s : Sequent) (ρ : ℕ → ℕ) (v : ℕ) (f : Fact) → Respects s ρ → v < m .worlds →
-      Holds (suc (s .sheet .worlds)) (put ρ (s .sheet .worlds) v) f → Respects (withWorld s f) (put ρ (s .sheet .worlds) v)
+      HoldsAt (suc (s .sheet .worlds)) (put ρ (s .sheet .worlds) v) f → Respects (withWorld s f) (put ρ (s .sheet .worlds) v)
   with-world s ρ v f r i h =
       record {
         counted = r .counted;
         inside = put-inside (m .worlds) ρ (s .sheet .worlds) v (r .inside) i;
         facts =
-            (h, all-turn (Holds (s .sheet .worlds) ρ) (Holds (suc (s .sheet .worlds)) (put ρ (s .sheet .worlds) v)) (older-fact (s .sheet .worlds) ρ v) (s .facts) (r .facts));
+            (h, all-turn (HoldsAt (s .sheet .worlds) ρ) (HoldsAt (suc (s .sheet .worlds)) (put ρ (s .sheet .worlds) v)) (older-fact (s .sheet .worlds) ρ v) (s .facts) (r .facts));
         clauses =
             all-turn (λ l. AtWorlds (s .sheet .worlds) l × Meets ρ l) (λ l. AtWorlds (suc (s .sheet .worlds)) l × Meets (put ρ (s .sheet .worlds) v) l)
             (older-clause (s .sheet .worlds) ρ v)
@@ -106,7 +106,7 @@ module _ (k n : ℕ) (m : Model) where
             (r .clauses);
       }
 
-  pub with-fact : (s : Sequent) (ρ : ℕ → ℕ) (f : Fact) → Respects s ρ → Holds (s .sheet .worlds) ρ f → Respects (withFact s f) ρ
+  pub with-fact : (s : Sequent) (ρ : ℕ → ℕ) (f : Fact) → Respects s ρ → HoldsAt (s .sheet .worlds) ρ f → Respects (withFact s f) ρ
   with-fact s ρ f r h = record { counted = r .counted; inside = r .inside; facts = (h, r .facts); clauses = r .clauses }
 
   pub with-clause : (s : Sequent) (ρ : ℕ → ℕ) (l : Lab) → Respects s ρ → AtWorlds (s .sheet .worlds) l → Meets ρ l → Respects (withClause s l) ρ

@@ -12,13 +12,13 @@ use Rattle.scope.specs.Logic.Obligation.{Lab, lab, Obligation, Step, factOf, ro
 use Rattle.scope.specs.Logic.Derivation.{Derivation}
 use Rattle.scope.specs.Logic.Models.{Model, Frame, Sat, SatAll, Entailed}
 use Rattle.sound.specs.Over.{Over, All}
-use Rattle.sound.specs.Meaning.{Holds, AtWorlds, Meets}
+use Rattle.sound.specs.Meaning.{HoldsAt, AtWorlds, Meets}
 use Rattle.sound.specs.Steps.{derives-sound}
 
 -- At a world x where the policy holds, the root stands for x, and so does every number.
 module _ (k n : ℕ) (m : Model) (x : ℕ) where
-  fact-holds : (f : Form) (fs : List Fact) → Over k n f → Sat m x f → All (Holds k n m 1 (λ u. x)) fs →
-      All (Holds k n m 1 (λ u. x)) (factOf f fs)
+  fact-holds : (f : Form) (fs : List Fact) → Over k n f → Sat m x f → All (HoldsAt k n m 1 (λ u. x)) fs →
+      All (HoldsAt k n m 1 (λ u. x)) (factOf f fs)
   unfolding Over Sat
   fact-holds (F.atom p) fs o h r = r
   fact-holds F.top fs o h r = r
@@ -29,7 +29,7 @@ module _ (k n : ℕ) (m : Model) (x : ℕ) where
   fact-holds (F.says a f) fs o h r = r
   fact-holds (F.sf a b) fs o h r = ((o .0, o .1, omega arith, h), r)
 
-  facts-root : (policy : List Form) → All (Over k n) policy → SatAll m x policy → All (Holds k n m 1 (λ u. x)) (rootFacts policy)
+  facts-root : (policy : List Form) → All (Over k n) policy → SatAll m x policy → All (HoldsAt k n m 1 (λ u. x)) (rootFacts policy)
   unfolding SatAll rootFacts
   facts-root [] o h = tt
   facts-root (f ∷ fs) o h = fact-holds f (rootFacts fs) (o .0) (h .0) (facts-root fs (o .1) (h .1))

@@ -16,7 +16,7 @@ use Rattle.scope.specs.Logic.Derivation.{Has, Rule, Derives, DerivesAll}
 use Rattle.scope.specs.Logic.Models as M
 use Rattle.scope.specs.Logic.Models.{Model, Frame, Sat}
 use Rattle.sound.specs.Over.{Over, All, all-place}
-use Rattle.sound.specs.Meaning.{put, put-same, put-other, Reach, again, Holds, AtWorlds, Meets, Respects, Valid}
+use Rattle.sound.specs.Meaning.{put, put-same, put-other, SeesBelow, again, HoldsAt, AtWorlds, Meets, Respects, Valid}
 use Rattle.sound.specs.Meaning.{with-world, with-fact, with-clause, meets-behind, meets-met}
 
 all-among : (P : Fact → Type 0) {fs : List Fact} {f : Fact} → Among fs f → All P fs → P f
@@ -37,7 +37,7 @@ module _ (k n : ℕ) (m : Model) (fr : Frame k n m) where
   mono (F.sf a b) o x y i j e h = fr .mon-sf a b x y (o .0) (o .1) i j (M.by-le j e M.same) h
 
   -- The facts that hold are closed under the nine rules.
-  rules-hold : (s : Sequent) (ρ : ℕ → ℕ) → Respects k n m s ρ → Rules (s .sheet) (Holds k n m (s .sheet .worlds) ρ)
+  rules-hold : (s : Sequent) (ρ : ℕ → ℕ) → Respects k n m s ρ → Rules (s .sheet) (HoldsAt k n m (s .sheet .worlds) ρ)
   rules-hold s ρ r =
       record {
         rule1 = λ u a i j. let c = r .counted in let l : a < k = omega arith in (l, l, i, fr .refl-sf a (ρ u) l (r .inside u));
@@ -73,9 +73,9 @@ module _ (k n : ℕ) (m : Model) (fr : Frame k n m) where
             (t .0, h .1, t .2, again c f);
       }
 
-  facts-hold : (s : Sequent) (ρ : ℕ → ℕ) (f : Fact) → Respects k n m s ρ → Has s f → Holds k n m (s .sheet .worlds) ρ f
+  facts-hold : (s : Sequent) (ρ : ℕ → ℕ) (f : Fact) → Respects k n m s ρ → Has s f → HoldsAt k n m (s .sheet .worlds) ρ f
   facts-hold s ρ f r h =
-      least (rules-hold s ρ r) (λ g a. all-among (Holds k n m (s .sheet .worlds) ρ) a (r .facts)) h
+      least (rules-hold s ρ r) (λ g a. all-among (HoldsAt k n m (s .sheet .worlds) ρ) a (r .facts)) h
 
   -- Each rule hands the validity of what it leaves up to what it met.
   rule-sound : {o : Obligation} {x : Step} {os : List Obligation} → Rule o x os → All (Valid k n m) os → Valid k n m o
@@ -122,7 +122,7 @@ module _ (k n : ℕ) (m : Model) (fr : Frame k n m) where
   rule-sound (D.by-to-says {s} {a} {f} {u} {v = x} i e) v =
       λ ρ r d t met.
       let b = v .0 ρ r (i, d .1 .1) t met in
-      let c : Reach m a (ρ u) (ρ x) = facts-hold s ρ (by a u x) r e .3 in (
+      let c : SeesBelow m a (ρ u) (ρ x) = facts-hold s ρ (by a u x) r e .3 in (
         b .0,
         λ h.
             b .1 (mono f (d .1 .1) (c .mid) (ρ x) (c .inside) (r .inside x) (c .below) (h (c .mid) (c .inside) (c .step))),

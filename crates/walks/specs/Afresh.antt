@@ -46,10 +46,10 @@ pub data WalkAt (t : Lent) : ℕ → List Obligation → Type 0 where
       WalkAt t (suc i) (new ++ waiting)
 
 -- Of the current sequent the rows tell what closing afresh computes; every step of the walk that asks for a fact asks `has`.
-abbrev pub Same : State → Obligation → Type 0
-Same s o = (f : Fact) → Aimed (o .sequent .sheet) f → told (s .rows) f ≡ has (o .sequent) f
+abbrev pub Afresh : State → Obligation → Type 0
+Afresh s o = (f : Fact) → Aimed (o .sequent .sheet) f → told (s .rows) f ≡ has (o .sequent) f
 
-related-same : {T : Reading} {s : State} {o : Obligation} {waiting : List Obligation} → Related T s (o ∷ waiting) → Same s o
+related-same : {T : Reading} {s : State} {o : Obligation} {waiting : List Obligation} → Related T s (o ∷ waiting) → Afresh s o
 related-same {T} (now-open {ls} frame down rests waits) f aimed = told-has T ls f (frame .kept) aimed
 
 -- A step that the machine makes the walk goes on with,
@@ -87,16 +87,16 @@ module _ (t : Lent) (p : Passed t) where
       (moved (h .0) (g .0), make (h .1) (some-open (h .2)) (g .1), g .2)
 
 pub kept-afresh : (t : Lent) → checked t ≡ answer 0 0 → {i : ℕ} {s : State} → MachineAt t i s → eqb (s .opened) 0 ≡ false →
-    (o : Obligation) × (waiting : List Obligation) × WalkAt t i (o ∷ waiting) × Same s o
+    (o : Obligation) × (waiting : List Obligation) × WalkAt t i (o ∷ waiting) × Afresh s o
 kept-afresh t c {i} {s} a some =
     let h = machine-walks t (unrefused-passed t (checked-fine t c .unrefused)) a in on (h .0) (h .1) (h .2)
   where
     on : {T : Reading} (os : List Obligation) → WalkAt t i os → Related T s os →
-        (o : Obligation) × (waiting : List Obligation) × WalkAt t i (o ∷ waiting) × Same s o
+        (o : Obligation) × (waiting : List Obligation) × WalkAt t i (o ∷ waiting) × Afresh s o
     on [] w r = let z = none-open r in never cc
     on (o ∷ waiting) w r = (o, waiting, w, related-same r)
 
 pub afresh-kept : (t : Lent) → checked t ≡ answer 0 0 → {i : ℕ} {o : Obligation} {waiting : List Obligation} → WalkAt t i (o ∷ waiting) →
-    (s : State) × MachineAt t i s × Same s o
+    (s : State) × MachineAt t i s × Afresh s o
 afresh-kept t c w =
     let h = walk-machine t (unrefused-passed t (checked-fine t c .unrefused)) w in (h .0, h .1, related-same (h .2))

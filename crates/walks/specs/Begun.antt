@@ -1,5 +1,5 @@
 -- The record that the machine begins with stands for document 01's first obligation: `begun-related`.
-use Prim.Native.Nat.{ℕ, zero, suc, _<_, _≤_}
+use Prim.Native.Nat.{ℕ, zero, suc, _*_, _<_, _≤_}
 use mathlib.Core.Path.{_≡_, refl, sym, ap, _∙_}
 use mathlib.Core.Logic.{_⊎_, ⊎-elim}
 use mathlib.Core.List.{List, [], _∷_, map}
@@ -10,14 +10,14 @@ use lib.ListN.{length, getD, set, drop, replicate, length-set, length-replicate,
 use lib.Seq.{getD-set-same, getD-set-other, drop-cons, drop-length, ext-getD}
 use Rattle.scope.specs.Logic.Form.{Form}
 use Rattle.scope.specs.Logic.Facts.{Fact}
-use Rattle.scope.specs.Limits.{mostClauses}
+use Rattle.scope.specs.Limits.{mostPrincipals, mostClauses, mostChunks}
 use Rattle.scope.specs.Logic.Obligation.{Lab, lab, factOf, rootFacts, start}
 use Rattle.facts.specs.Rows.{rootRows, noted}
 use Rattle.facts.specs.Kept.{Kept}
 use Rattle.facts.specs.Noted.{kept-note}
 use Rattle.facts.specs.Root.{kept-root}
 use Rattle.moves.specs.Steps.{pick}
-use Rattle.machine.specs.Tables.{block}
+use Rattle.machine.specs.Tables.{places, clausePlaces, block}
 use Rattle.machine.specs.Machine.{lineNoted, linesNoted, linesPut, first, begun}
 use Rattle.walks.specs.Trees.{byMeans, Reading}
 use Rattle.walks.specs.Blocks.{block-length}
@@ -57,7 +57,7 @@ put-at lines (suc n) i cl h l =
         (λ g. older g long)
 
 abbrev zeros : List ℕ
-zeros = replicate 257 0
+zeros = replicate clausePlaces 0
 
 module _ (T : Reading) (lines nums : List ℕ) (count : ℕ) (long : length nums ≡ count) (few : count ≤ mostClauses)
     (same : (i : ℕ) → i < count → getD nums i 0 ≡ getD lines i 0) (known : (i : ℕ) → i < count → getD lines i 0 < T .formulas) where
@@ -93,13 +93,13 @@ module _ (T : Reading) (lines nums : List ℕ) (count : ℕ) (long : length nums
           getD (labs (T .tree) count cl zeros) i (lab (T .tree 0) 0)
       each i h =
           let low : i < count = omega (arith, mapped) in
-          let within : i < 257 = omega arith in
+          let within : i < clausePlaces = omega arith in
           let right : getD (labs (T .tree) count cl zeros) i (lab (T .tree 0) 0) ≡ lab (T .tree (getD cl i 0)) (getD zeros i 0) =
           labs-at (T .tree) count i cl zeros (lab (T .tree 0) 0) low in
           let number : getD nums i 0 ≡ getD cl i 0 = same i low ∙ sym (put i low) in
           List·getD-map (λ (f : Form). lab f 0) policy i (T .tree 0) ∙
           ap (λ (f : Form). lab f 0) (List·getD-map (T .tree) nums i 0 ∙ ap (T .tree) number) ∙
-          ap (λ (u : ℕ). lab (T .tree (getD cl i 0)) u) (sym (getD-replicate 257 i 0 0 within)) ∙ sym right
+          ap (λ (u : ℕ). lab (T .tree (getD cl i 0)) u) (sym (getD-replicate clausePlaces i 0 0 within)) ∙ sym right
 
   -- and an `sf` line is a fact there.
   line-kept : (f : ℕ) → f < T .formulas → (fs : List Fact) (rows : List ℕ) → Kept (sheetOf T 1) fs rows →
@@ -134,19 +134,19 @@ module _ (T : Reading) (lines nums : List ℕ) (count : ℕ) (long : length nums
       let all : drop count policy ≡ [] =
       rw (← (length-map nums (T .tree) ∙ long)) (drop-length policy) in
       let begins : Kept (sheetOf T 1) (rootFacts (drop count policy)) rootRows = rw all (kept-root (sheetOf T 1) refl (T .few)) in
-      now-open {ch = block (replicate 4112 0) 0} {sv = block (replicate 4112 0) 0} {n = 0} {m = 0}
+      now-open {ch = block mostChunks (replicate (places * mostChunks) 0) 0} {sv = block mostPrincipals (replicate (places * mostPrincipals) 0) 0} {n = 0} {m = 0}
       (record {
         stack-size =
             record {
-              obligations = length-replicate 257 (first goal count);
-              chunks = length-replicate {A = ℕ} 4112 0;
-              saved = length-replicate {A = ℕ} 4112 0;
+              obligations = length-replicate places (first goal count);
+              chunks = length-replicate {A = ℕ} (places * mostChunks) 0;
+              saved = length-replicate {A = ℕ} (places * mostPrincipals) 0;
             };
-        cl-size = put-length lines count zeros ∙ length-replicate {A = ℕ} 257 0;
-        ats-size = length-replicate {A = ℕ} 257 0;
+        cl-size = put-length lines count zeros ∙ length-replicate {A = ℕ} clausePlaces 0;
+        ats-size = length-replicate {A = ℕ} clausePlaces 0;
         room = omega arith;
         on-top = refl;
-        chunk-size = block-length (replicate 4112 0) 0;
+        chunk-size = block-length mostChunks (replicate (places * mostChunks) 0) 0;
         clauses = clauses-begun;
         kept = lines-kept count (omega arith) rootRows begins;
       })

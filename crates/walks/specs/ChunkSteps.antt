@@ -28,7 +28,7 @@ use Rattle.machine.specs.Change as numbers
 use Rattle.machine.specs.Machine.{Stack}
 use Rattle.walks.specs.Trees.{Means, Reading}
 use Rattle.machine.specs.Turn.{stateOf}
-use Rattle.walks.specs.Related.{Entry, downFrom, chunksOf, Below, seq, Waits, Frame}
+use Rattle.walks.specs.Related.{StackEntry, downFrom, chunksOf, Below, seq, Waits, Standing}
 use Rattle.walks.specs.Views.{waits-count}
 use Rattle.walks.specs.Moved.{moved-close}
 use Rattle.walks.specs.Moves.{moved-drop, moved-note, moved-push, moved-split, moved-case}
@@ -48,8 +48,8 @@ unfolding metCount
 behind-met [] g = refl
 behind-met (c ∷ cs) g = refl
 
-module _ {T : Reading} {rows cl ats ch sv : List ℕ} {stack : Stack} {es : List Entry} {n m c t u i : ℕ} {fs : List Fact}
-    {ls : List Lab} (frame : Frame T rows stack n cl ats (phase.Chunks (numbers.lab t u) (suc i)) m c ch sv fs ls)
+module _ {T : Reading} {rows cl ats ch sv : List ℕ} {stack : Stack} {es : List StackEntry} {n m c t u i : ℕ} {fs : List Fact}
+    {ls : List Lab} (frame : Standing T rows stack n cl ats (phase.Chunks (numbers.lab t u) (suc i)) m c ch sv fs ls)
     (down : downFrom stack n ≡ es) (named : t < T .formulas) (newest : suc u ≡ suc m) (few : i < mostChunks)
     (known : Below (T .formulas) (suc i) ch) {waiting : List Obligation} (waits : Waits T rows cl ats (suc m) c es waiting) where
   abbrev here : Sequent

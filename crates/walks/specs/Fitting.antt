@@ -17,7 +17,7 @@ use Rattle.scope.specs.Logic.Room.{chunkCount, metCount, openCount, small, with
 use Rattle.moves.specs.declared.Phase as D
 use Rattle.machine.specs.Machine.{Stack}
 use Rattle.walks.specs.Trees.{Reading}
-use Rattle.walks.specs.Related.{labs, Clauses, seq, Frame}
+use Rattle.walks.specs.Related.{labs, Clauses, seq, Standing}
 use Rattle.walks.specs.Rooms.{Small, small-more, within-true, labs-length}
 
 pub clauses-length : {T : Reading} {cl ats : List ℕ} {c : ℕ} {ls : List Lab} → Clauses T cl ats c ls → length ls ≡ c
@@ -25,7 +25,7 @@ clauses-length {T} {cl} {ats} {c} k = ap length (k .are) ∙ labs-length (T .tre
 
 -- The clauses of the current sequent are few.
 pub clauses-few : {T : Reading} {rows cl ats ch sv : List ℕ} {stack : Stack} {n m c : ℕ} {ph : D.Phase} {fs : List Fact}
-    {ls : List Lab} → Frame T rows stack n cl ats ph m c ch sv fs ls → length ls ≤ mostClauses
+    {ls : List Lab} → Standing T rows stack n cl ats ph m c ch sv fs ls → length ls ≤ mostClauses
 clauses-few frame = omega (arith, clauses-length (frame .clauses), frame .clauses .few)
 
 pub none-within : (w : ℕ) → w ≤ mostOpen → within w [] ≡ true
@@ -38,7 +38,7 @@ unfolding small openCount
 one-within w s p h g = within-true w (ob s p ∷ []) (small-more s p [] h refl) (omega arith)
 
 module _ {T : Reading} {rows cl ats ch sv : List ℕ} {stack : Stack} {n m c : ℕ} {ph : D.Phase} {fs : List Fact}
-    {ls : List Lab} (frame : Frame T rows stack n cl ats ph m c ch sv fs ls) (w : ℕ) where
+    {ls : List Lab} (frame : Standing T rows stack n cl ats ph m c ch sv fs ls) (w : ℕ) where
   pub small-now : (p : Phase) → chunkCount p ≤ mostChunks → Small (seq T (suc m) fs ls) p
   small-now p h =
       record {

@@ -29,7 +29,7 @@ use Rattle.machine.specs.Change.{goalIn}
 use Rattle.machine.specs.Machine.{Stack}
 use Rattle.walks.specs.Trees.{Reading}
 use Rattle.machine.specs.Turn.{stateOf}
-use Rattle.walks.specs.Related.{Entry, downFrom, seq, Waits, metIn, Frame}
+use Rattle.walks.specs.Related.{StackEntry, downFrom, seq, Waits, metIn, Standing}
 use Rattle.walks.specs.Views.{waits-count}
 use Rattle.walks.specs.Moved.{moved-close}
 use Rattle.walks.specs.Moves.{moved-aim, moved-meet}
@@ -38,8 +38,8 @@ use Rattle.walks.specs.Fitting.{alone-within, clauses-few}
 use Rattle.walks.specs.Match.{Match, no-fit, no-room, fits, told-has, if-room, if-need, if-below, only-atom, only-and}
 use Rattle.walks.specs.Match.{only-imp-says}
 
-module _ {T : Reading} {rows cl ats ch sv : List ℕ} {stack : Stack} {es : List Entry} {n m c f u t w q : ℕ} {fs : List Fact}
-    {ls : List Lab} (frame : Frame T rows stack n cl ats (phase.Focus (numbers.lab f u) (numbers.lab t w)) m c ch sv fs ls)
+module _ {T : Reading} {rows cl ats ch sv : List ℕ} {stack : Stack} {es : List StackEntry} {n m c f u t w q : ℕ} {fs : List Fact}
+    {ls : List Lab} (frame : Standing T rows stack n cl ats (phase.Focus (numbers.lab f u) (numbers.lab t w)) m c ch sv fs ls)
     (down : downFrom stack n ≡ es) (named : f < T .formulas) (aimed : w < suc m) (atom : q ≡ rowAt (T .table) t .left)
     (met : List Lab) (waiting : List Obligation)
     (waits : Waits T rows cl ats (suc m) c es (metIn (seq T (suc m) fs ls) (focus (lab (T .tree f) u) q w met) ++ waiting)) where

@@ -34,7 +34,7 @@ use Rattle.machine.specs.Change.{goalIn}
 use Rattle.machine.specs.Machine.{Stack}
 use Rattle.walks.specs.Trees.{Reading}
 use Rattle.machine.specs.Turn.{stateOf}
-use Rattle.walks.specs.Related.{Entry, downFrom, seq, Waits, metIn, Frame}
+use Rattle.walks.specs.Related.{StackEntry, downFrom, seq, Waits, metIn, Standing}
 use Rattle.walks.specs.Views.{waits-count}
 use Rattle.walks.specs.Moved.{moved-close}
 use Rattle.walks.specs.Moves.{moved-go, moved-aim, moved-both, moved-less, moved-speak}
@@ -43,8 +43,8 @@ use Rattle.walks.specs.Fitting.{alone-within, pair-within, none-within, 
 use Rattle.walks.specs.Match.{Match, no-fit, no-room, fits, told-has, if-room, if-need, only-atom, only-top, only-and}
 use Rattle.walks.specs.Match.{only-or, only-imp, only-says, only-sf, sf-kind}
 
-module _ {T : Reading} {rows cl ats ch sv : List ℕ} {stack : Stack} {es : List Entry} {n m c f u : ℕ} {fs : List Fact}
-    {ls : List Lab} (frame : Frame T rows stack n cl ats (phase.Goal (numbers.lab f u)) m c ch sv fs ls) (down : downFrom stack n ≡ es)
+module _ {T : Reading} {rows cl ats ch sv : List ℕ} {stack : Stack} {es : List StackEntry} {n m c f u : ℕ} {fs : List Fact}
+    {ls : List Lab} (frame : Standing T rows stack n cl ats (phase.Goal (numbers.lab f u)) m c ch sv fs ls) (down : downFrom stack n ≡ es)
     (named : f < T .formulas) (inside : u < suc m) {waiting : List Obligation} (waits : Waits T rows cl ats (suc m) c es waiting) where
   abbrev here : Sequent
   here = seq T (suc m) fs ls

@@ -10,7 +10,7 @@ use borrow.Author.Tests.{le-leb, lt-leb}
 use lib.ListN.{length, getD, set, length-set}
 use lib.Seq.{getD-set-same, getD-set-other}
 use Rattle.scope.specs.Logic.Facts.{Fact}
-use Rattle.scope.specs.Limits.{mostOpen}
+use Rattle.scope.specs.Limits.{mostPrincipals, mostOpen, mostChunks}
 use Rattle.scope.specs.Logic.Obligation.{Lab, Sequent, Phase, Obligation, ob}
 use Rattle.scope.specs.Tools.Tests.{never}
 use Rattle.facts.specs.Rows.{sfRows, putSf}
@@ -26,8 +26,8 @@ use Rattle.machine.specs.Machine.{Stack, nothing, obligationAt, moved}
 use Rattle.walks.specs.Trees.{Reading}
 use Rattle.walks.specs.Blocks.{block-length, block-put, put-length, same-self, same-put}
 use Rattle.machine.specs.Turn.{stateOf}
-use Rattle.walks.specs.Related.{Entry, headOf, entry, entryAt, downFrom, Rests, at-goal, at-chunks, Stands, at-rest, Clauses}
-use Rattle.walks.specs.Related.{sheetOf, seq, Waits, none-waits, one-waits, metIn, Frame, Related, all-closed, now-open}
+use Rattle.walks.specs.Related.{StackEntry, headOf, entry, entryAt, downFrom, Rests, at-goal, at-chunks, Stands, at-rest, Clauses}
+use Rattle.walks.specs.Related.{sheetOf, seq, Waits, none-waits, one-waits, metIn, Standing, Related, all-closed, now-open}
 use Rattle.walks.specs.Views.{entry-is, head-is, saved-is, entry-under, down-under, under-two}
 use Rattle.walks.specs.Views.{clauses-set, waits-set, waits-rows}
 use Rattle.walks.specs.Chunks.{one-less, Wrote}
@@ -41,17 +41,17 @@ unfolding savedAfter pick
 saved-kept opened more rows w saved h = rw (le-leb more opened h) refl
 
 saved-more : (n : ℕ) (rows : List ℕ) (m : ℕ) (saved : List ℕ) →
-    savedAfter (suc n) (suc n + 1) rows (suc m) saved ≡ putBlock saved n (sfRows rows m)
+    savedAfter (suc n) (suc n + 1) rows (suc m) saved ≡ putBlock mostPrincipals saved n (sfRows rows m)
 unfolding savedAfter pick
 saved-more n rows m saved =
     let more : suc n < suc n + 1 = omega arith in
-    rw (lt-leb (suc n + 1) (suc n) more) (ap (λ (k : ℕ). putBlock saved k (sfRows rows (suc m - 1))) (one-less n) ∙
-    ap (λ (k : ℕ). putBlock saved n (sfRows rows k)) (one-less m))
+    rw (lt-leb (suc n + 1) (suc n) more) (ap (λ (k : ℕ). putBlock mostPrincipals saved k (sfRows rows (suc m - 1))) (one-less n) ∙
+    ap (λ (k : ℕ). putBlock mostPrincipals saved n (sfRows rows k)) (one-less m))
 
 pub moved-at : (rows : List ℕ) (stack : Stack) (n : ℕ) (cl ats : List ℕ) (mv : M.Move) (o : E.Obligation) →
     getD (stack .obligations) n nothing ≡ o →
     moved (stateOf rows stack (suc n) cl ats) mv ≡
-    stateOf (rowsAfter mv o (getD (stack .obligations) (suc n - 2) nothing) (block (savedNow rows stack n mv o) (suc n - 2)) rows)
+    stateOf (rowsAfter mv o (getD (stack .obligations) (suc n - 2) nothing) (block mostPrincipals (savedNow rows stack n mv o) (suc n - 2)) rows)
     (record {
       obligations = set (set (stack .obligations) (suc n) (changeOf mv o (suc n) .upper)) n (changeOf mv o (suc n) .lower);
       chunks = chunksAfter mv (chunkCount (o .phase)) n (stack .chunks);
@@ -64,8 +64,8 @@ moved-at rows stack n cl ats mv o top =
     let h : getD (stack .obligations) (suc n - 1) nothing ≡ o = rw (one-less n) top in
     rw (h, one-less n) refl
 
-module _ {T : Reading} {rows cl ats ch sv : List ℕ} {stack : Stack} {es : List Entry} {n m c : ℕ} {ph : D.Phase} {fs : List Fact}
-    {ls : List Lab} (frame : Frame T rows stack n cl ats ph m c ch sv fs ls) (down : downFrom stack n ≡ es) where
+module _ {T : Reading} {rows cl ats ch sv : List ℕ} {stack : Stack} {es : List StackEntry} {n m c : ℕ} {ph : D.Phase} {fs : List Fact}
+    {ls : List Lab} (frame : Standing T rows stack n cl ats ph m c ch sv fs ls) (down : downFrom stack n ≡ es) where
   abbrev pub topNow : ℕ
   topNow = topChunk (stack .chunks) n ph
 
@@ -113,17 +113,17 @@ module _ {T : Reading} {rows cl ats ch sv : List ℕ} {stack : Stack} {es : List
         ats-size = length-set ats c (goalIn ph .at .0) ∙ frame .ats-size;
         room = frame .room;
         on-top = entry-is st n (getD-set-same (set os (suc n) o) n o nothing long) (wrote .here) (saved-is stack n (frame .on-top));
-        chunk-size = sym (ap length (wrote .here)) ∙ block-length l′ n;
+        chunk-size = sym (ap length (wrote .here)) ∙ block-length mostChunks l′ n;
         clauses = clauses;
         kept = kept;
       })
-      (down-under n (omega arith) (under-two stack n o o (wrote .below) (same-self n (stack .saved))) ∙ down)
+      (down-under n (omega arith) (under-two stack n o o (wrote .below) (same-self mostPrincipals n (stack .saved))) ∙ down)
       stands waits)
 
   pub moved-fork : (mv : M.Move) {l′ : List ℕ} {phu phl : D.Phase} {chu chl : List ℕ} {pu pl : Phase} {waiting os : List Obligation} →
       changeOf mv now (suc n) ≡
       record { lower = headOf phl (suc m) c; upper = headOf phu (suc m) c; opened = suc n + 1 } →
-      chunksAfter mv (chunkCount ph) n (stack .chunks) ≡ l′ → Wrote n (stack .chunks) l′ chl → block l′ (suc n) ≡ chu →
+      chunksAfter mv (chunkCount ph) n (stack .chunks) ≡ l′ → Wrote n (stack .chunks) l′ chl → block mostChunks l′ (suc n) ≡ chu →
       ((next : E.Obligation) (kept : List ℕ) → rowsAfter mv now next kept rows ≡ rows) →
       suc n < mostOpen → Stands T (suc m) chu phu pu → Rests T (suc m) chl phl pl →
       Waits T rows cl ats (suc m) c es os → metIn (seq T (suc m) fs ls) pu ++ waiting ≡ ob (seq T (suc m) fs ls) pl ∷ os →
@@ -134,23 +134,23 @@ module _ {T : Reading} {rows cl ats ch sv : List ℕ} {stack : Stack} {es : List
       let lower : E.Obligation = headOf phl (suc m) c in
       let obs : List E.Obligation = stack .obligations in
       let kept : List ℕ = sfRows rows m in
-      let sv′ : List ℕ = putBlock (stack .saved) n kept in
+      let sv′ : List ℕ = putBlock mostPrincipals (stack .saved) n kept in
       let st : Stack = record { obligations = set (set obs (suc n) upper) n lower; chunks = l′; saved = sv′ } in
       let long : suc n < length obs = omega (arith, frame .stack-size .obligations) in
       let long′ : n < length (set obs (suc n) upper) = rw length-set (omega (arith, frame .stack-size .obligations)) in
       let other : suc n ≡ n → ⊥ = λ q. omega arith in
       let low : c ≤ c = omega arith in
       let same : suc m ≤ suc m = omega arith in
-      let within : n * 16 + 16 ≤ length (stack .saved) = omega (arith, frame .stack-size .saved) in
-      let under = under-two stack n upper lower (wrote .below) (same-put n kept (omega arith) (same-self n (stack .saved))) in
+      let within : n * mostPrincipals + mostPrincipals ≤ length (stack .saved) = omega (arith, frame .stack-size .saved) in
+      let under = under-two stack n upper lower (wrote .below) (same-put mostPrincipals n kept (omega arith) (same-self mostPrincipals n (stack .saved))) in
       let waiter : entryAt st n ≡ entry phl (suc m) c chl kept =
       entry-is st n (getD-set-same (set obs (suc n) upper) n lower nothing long′) (wrote .here)
-      (block-put (stack .saved) n kept (sf-length rows m) within) in
+      (block-put mostPrincipals (stack .saved) n kept (sf-length rows m) within) in
       let below : downFrom st (suc n) ≡ entry phl (suc m) c chl kept ∷ es =
       rw (waiter, down-under n (omega arith) under, down) refl in
       let wait : Waits T rows clNow atsNow (suc m) c (entry phl (suc m) c chl kept ∷ es) (metIn (seq T (suc m) fs ls) pu ++ waiting) =
       rw split
-      (one-waits {r = rows} same low rests (sym (ap length (wrote .here)) ∙ block-length l′ n)
+      (one-waits {r = rows} same low rests (sym (ap length (wrote .here)) ∙ block-length mostChunks l′ n)
       (clauses-set c topNow (goalIn ph .at .0) low (frame .clauses)) (frame .kept) (agree-self (suc m) rows) refl
       (waits-set c topNow (goalIn ph .at .0) low waits)) in
       rw (
@@ -167,7 +167,7 @@ module _ {T : Reading} {rows cl ats ch sv : List ℕ} {stack : Stack} {es : List
             record {
               obligations = length-set (set obs (suc n) upper) n lower ∙ length-set obs (suc n) upper ∙ frame .stack-size .obligations;
               chunks = wrote .size;
-              saved = put-length (stack .saved) n kept ∙ frame .stack-size .saved;
+              saved = put-length mostPrincipals (stack .saved) n kept ∙ frame .stack-size .saved;
             };
         cl-size = length-set cl c topNow ∙ frame .cl-size;
         ats-size = length-set ats c (goalIn ph .at .0) ∙ frame .ats-size;
@@ -176,7 +176,7 @@ module _ {T : Reading} {rows cl ats ch sv : List ℕ} {stack : Stack} {es : List
             entry-is st (suc n)
             (getD-set-other (set obs (suc n) upper) n (suc n) lower nothing other ∙ getD-set-same obs (suc n) upper nothing long) above
             refl;
-        chunk-size = sym (ap length above) ∙ block-length l′ (suc n);
+        chunk-size = sym (ap length above) ∙ block-length mostChunks l′ (suc n);
         clauses = clauses-set c topNow (goalIn ph .at .0) low (frame .clauses);
         kept = frame .kept;
       })
@@ -191,9 +191,9 @@ rests-met s (at-chunks f u m b) = refl
 two-less : (n : ℕ) → suc (suc n) - 2 ≡ n
 two-less n = omega arith
 
-pub moved-close : {T : Reading} {rows cl ats ch sv : List ℕ} {stack : Stack} {es : List Entry} {n m c : ℕ} {ph : D.Phase}
+pub moved-close : {T : Reading} {rows cl ats ch sv : List ℕ} {stack : Stack} {es : List StackEntry} {n m c : ℕ} {ph : D.Phase}
     {fs : List Fact} {ls : List Lab} {os : List Obligation} →
-    Frame T rows stack n cl ats ph m c ch sv fs ls → downFrom stack n ≡ es → Waits T rows cl ats (suc m) c es os →
+    Standing T rows stack n cl ats ph m c ch sv fs ls → downFrom stack n ≡ es → Waits T rows cl ats (suc m) c es os →
     Related T (moved (stateOf rows stack (suc n) cl ats) move.Close) os
 unfolding downFrom changeOf rowsAfter chunksAfter
 moved-close {rows} {cl} {ats} {ch} {sv} {stack} {n = zero} {m} {c} {ph} frame down none-waits =
@@ -216,17 +216,17 @@ moved-close {T} {rows} {cl} {ats} {ch} {sv} {stack} {n = suc n} {m} {c} {ph} fra
     let keep = saved-kept (suc (suc n)) (suc (suc n) - 1) rows (suc m) (stack .saved) fall in
     let next : getD obs (suc (suc n) - 2) nothing ≡ headOf ph′ (suc i) d =
     ap (λ (k : ℕ). getD obs k nothing) (two-less n) ∙ head-is stack n top in
-    let put : block (stack .saved) (suc (suc n) - 2) ≡ sfRows r i =
-    ap (block (stack .saved)) (two-less n) ∙ saved-is stack n top ∙ saved in
-    let after : rowsAfter move.Close o (getD obs (suc (suc n) - 2) nothing) (block (stack .saved) (suc (suc n) - 2)) rows ≡
+    let put : block mostPrincipals (stack .saved) (suc (suc n) - 2) ≡ sfRows r i =
+    ap (block mostPrincipals (stack .saved)) (two-less n) ∙ saved-is stack n top ∙ saved in
+    let after : rowsAfter move.Close o (getD obs (suc (suc n) - 2) nothing) (block mostPrincipals (stack .saved) (suc (suc n) - 2)) rows ≡
     putSf rows i (sfRows r i) =
-    ap (λ (x : E.Obligation). putSf rows (x .worlds - 1) (block (stack .saved) (suc (suc n) - 2))) next ∙
+    ap (λ (x : E.Obligation). putSf rows (x .worlds - 1) (block mostPrincipals (stack .saved) (suc (suc n) - 2))) next ∙
     ap (putSf rows (suc i - 1)) put ∙ ap (λ (k : ℕ). putSf rows k (sfRows r i)) (one-less i) in
     let room : n < mostOpen = omega (arith, frame .room) in
     let wait : Waits T (putSf rows i (sfRows r i)) (set cl c x) (set ats c y) (suc i) d es (metIn (seq T (suc i) fs′ ls′) p ++ os) =
     rw (rests-met (seq T (suc i) fs′ ls′) rests)
     (waits-set c x y fewer (waits-rows (agree-put (suc i) i rows (sfRows r i) same) more)) in
-    let under = under-two stack (suc n) o o (same-self (suc n) (stack .chunks)) (same-self (suc n) (stack .saved)) in
+    let under = under-two stack (suc n) o o (same-self mostChunks (suc n) (stack .chunks)) (same-self mostPrincipals (suc n) (stack .saved)) in
     rw (moved-at rows stack (suc n) cl ats move.Close o (head-is stack (suc n) (frame .on-top)), keep, after, one-less (suc n))
     (now-open {stack = st}
     (record {

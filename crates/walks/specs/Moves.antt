@@ -22,21 +22,21 @@ use Rattle.moves.specs.Steps.{pick, principal}
 use Rattle.moves.specs.Judge.{rowAt}
 use Rattle.machine.specs.Change as numbers
 use Rattle.machine.specs.Change.{goalIn, changeOf}
-use Rattle.machine.specs.Tables.{topChunk, splitChunks, caseChunks, chunksAfter, rowsAfter}
+use Rattle.machine.specs.Tables.{places, topChunk, splitChunks, caseChunks, chunksAfter, rowsAfter}
 use Rattle.machine.specs.Machine.{Stack, State, moved}
 use Rattle.walks.specs.Trees.{Reading}
 use Rattle.facts.specs.Grown.{kept-le, kept-by, agree-le, agree-by}
 use Rattle.facts.specs.Noted.{kept-note, agree-note}
 use Rattle.machine.specs.Turn.{stateOf}
-use Rattle.walks.specs.Related.{Entry, downFrom, chunksOf, Below, Rests, at-goal, at-chunks, Stands, at-rest, in-focus}
-use Rattle.walks.specs.Related.{Clauses, sheetOf, seq, Waits, metIn, Frame, Related}
+use Rattle.walks.specs.Related.{StackEntry, downFrom, chunksOf, Below, Rests, at-goal, at-chunks, Stands, at-rest, in-focus}
+use Rattle.walks.specs.Related.{Clauses, sheetOf, seq, Waits, metIn, Standing, Related}
 use Rattle.walks.specs.Views.{chunks-set, below-less, below-more, clauses-set, clauses-pushed, waits-set, waits-rows, waits-wider}
 use Rattle.walks.specs.Chunks.{one-less, wrote-set, wrote-above, wrote-none, wrote-copy, case-above, top-is}
 use Rattle.walks.specs.Moved.{moved-alone, moved-fork, rests-met}
 
 -- Of any phase.
-module _ {T : Reading} {rows cl ats ch sv : List ℕ} {stack : Stack} {es : List Entry} {n m c : ℕ} {ph : D.Phase} {fs : List Fact}
-    {ls : List Lab} (frame : Frame T rows stack n cl ats ph m c ch sv fs ls) (down : downFrom stack n ≡ es) where
+module _ {T : Reading} {rows cl ats ch sv : List ℕ} {stack : Stack} {es : List StackEntry} {n m c : ℕ} {ph : D.Phase} {fs : List Fact}
+    {ls : List Lab} (frame : Standing T rows stack n cl ats ph m c ch sv fs ls) (down : downFrom stack n ≡ es) where
   -- The clauses, which such a move leaves, and what it writes past them.
   abbrev noClause : Clauses T (set cl c (topChunk (stack .chunks) n ph)) (set ats c (goalIn ph .at .0)) c ls
   noClause =
@@ -88,8 +88,8 @@ module _ {T : Reading} {rows cl ats ch sv : List ℕ} {stack : Stack} {es : List
       (wrote-none frame) refl (λ next kept. refl) room (in-focus r aimed same) (at-goal p inside) waits refl
 
 -- Of a goal: a new world.
-module _ {T : Reading} {rows cl ats ch sv : List ℕ} {stack : Stack} {es : List Entry} {n m c t u : ℕ} {fs : List Fact}
-    {ls : List Lab} (frame : Frame T rows stack n cl ats (phase.Goal (numbers.lab t u)) m c ch sv fs ls) (down : downFrom stack n ≡ es)
+module _ {T : Reading} {rows cl ats ch sv : List ℕ} {stack : Stack} {es : List StackEntry} {n m c t u : ℕ} {fs : List Fact}
+    {ls : List Lab} (frame : Standing T rows stack n cl ats (phase.Goal (numbers.lab t u)) m c ch sv fs ls) (down : downFrom stack n ≡ es)
     (inside : u < suc m) (room : suc m < mostWorlds) {waiting : List Obligation} (waits : Waits T rows cl ats (suc m) c es waiting) where
   pub moved-less : {f h : ℕ} → f < T .formulas → h < T .formulas →
       Related T (moved (stateOf rows stack (suc n) cl ats) (move.Less f h))
@@ -103,8 +103,8 @@ module _ {T : Reading} {rows cl ats ch sv : List ℕ} {stack : Stack} {es : List
       let long : 0 < length ch = omega (arith, frame .chunk-size) in
       let top : getD (set ch 0 f) 0 0 ≡ f = getD-set-same ch 0 f 0 long in
       let first : Below (T .formulas) 0 ch = record { each = λ j g. absurd (omega arith) } in
-      let some : 0 < 16 = omega arith in
-      let inner : n < 257 = omega (arith, frame .room) in
+      let some : 0 < mostChunks = omega arith in
+      let inner : n < places = omega (arith, frame .room) in
       let stands : Stands T (suc (suc m)) (set ch 0 f) (phase.Chunks (numbers.lab h (suc m)) 1)
       (chunks (T .tree f) [] (lab (T .tree h) (suc m))) =
       subst (λ (z : ℕ). Stands T (suc (suc m)) (set ch 0 f) (phase.Chunks (numbers.lab h (suc m)) 1)
@@ -129,8 +129,8 @@ module _ {T : Reading} {rows cl ats ch sv : List ℕ} {stack : Stack} {es : List
       (waits-set c x u low (waits-wider more low (waits-rows (agree-by (suc m) a u (suc m) rows old) waits)))
 
 -- Of chunks: the topmost one is number i of the array.
-module _ {T : Reading} {rows cl ats ch sv : List ℕ} {stack : Stack} {es : List Entry} {n m c t u i : ℕ} {fs : List Fact}
-    {ls : List Lab} (frame : Frame T rows stack n cl ats (phase.Chunks (numbers.lab t u) (suc i)) m c ch sv fs ls)
+module _ {T : Reading} {rows cl ats ch sv : List ℕ} {stack : Stack} {es : List StackEntry} {n m c t u i : ℕ} {fs : List Fact}
+    {ls : List Lab} (frame : Standing T rows stack n cl ats (phase.Chunks (numbers.lab t u) (suc i)) m c ch sv fs ls)
     (down : downFrom stack n ≡ es) (named : t < T .formulas) (newest : suc u ≡ suc m) (few : i < mostChunks)
     (known : Below (T .formulas) (suc i) ch) {waiting : List Obligation} (waits : Waits T rows cl ats (suc m) c es waiting) where
   abbrev here : Sequent
@@ -149,11 +149,11 @@ module _ {T : Reading} {rows cl ats ch sv : List ℕ} {stack : Stack} {es : List
   goalLab = numbers.lab t u
 
   -- The goal behind the chunks below it.
-  popped-rests : (j : ℕ) → j < 16 → Below (T .formulas) j ch →
+  popped-rests : (j : ℕ) → j < mostChunks → Below (T .formulas) j ch →
       Rests T (suc m) ch (numbers.behind goalLab j) (behind (chunksOf (T .tree) j ch) aim)
   unfolding numbers.behind pick chunksOf
   popped-rests zero h b = let inside : u < suc m = omega arith in at-goal named inside
-  popped-rests (suc j) h b = let some : j < 16 = omega arith in rw (leb·suc-zero j) (at-chunks named newest some b)
+  popped-rests (suc j) h b = let some : j < mostChunks = omega arith in rw (leb·suc-zero j) (at-chunks named newest some b)
 
   waits-on : (s : Sequent) (p : Phase) {rows′ cl′ ats′ : List ℕ} {c′ : ℕ} → Rests T (suc m) ch (numbers.behind goalLab i) p →
       Waits T rows′ cl′ ats′ (suc m) c′ es waiting → Waits T rows′ cl′ ats′ (suc m) c′ es (metIn s p ++ waiting)
@@ -217,7 +217,7 @@ module _ {T : Reading} {rows cl ats ch sv : List ℕ} {stack : Stack} {es : List
       (waits-on (seq T (suc m) fs (ls ++ (lab (T .tree (getD ch i 0)) u ∷ []))) (behind rest aim) rests
       (waits-wider old up (waits-set c x u low waits)))
 
-  pub moved-split : {f h : ℕ} → f < T .formulas → h < T .formulas → suc i < 16 →
+  pub moved-split : {f h : ℕ} → f < T .formulas → h < T .formulas → suc i < mostChunks →
       Related T (moved now (move.Split f h)) (ob here (chunks (T .tree f) (T .tree h ∷ rest) aim) ∷ waiting)
   unfolding changeOf chunksAfter splitChunks rowsAfter numbers.oneMore numbers.chunkCount goalIn chunksOf metIn
   moved-split {f} {h} p q room =
@@ -226,7 +226,7 @@ module _ {T : Reading} {rows cl ats ch sv : List ℕ} {stack : Stack} {es : List
       let over′ : suc i ≤ suc i = omega arith in
       let less : i ≤ suc i = omega arith in
       let x : ℕ = topChunk (stack .chunks) n (phase.Chunks goalLab (suc i)) in
-      let inner : n < 257 = omega (arith, frame .room) in
+      let inner : n < places = omega (arith, frame .room) in
       let long : i < length ch = omega (arith, frame .chunk-size) in
       let long′ : suc i < length (set ch i h) = rw length-set (omega (arith, frame .chunk-size)) in
       let held : List ℕ = set (set ch i h) (suc i) f in
@@ -255,7 +255,7 @@ module _ {T : Reading} {rows cl ats ch sv : List ℕ} {stack : Stack} {es : List
       Related T (moved now (move.Case f h)) (ob here (chunks (T .tree f) rest aim) ∷ ob here (chunks (T .tree h) rest aim) ∷ waiting)
   unfolding changeOf chunksAfter caseChunks rowsAfter numbers.chunkCount metIn
   moved-case {f} {h} p q room =
-      let inner : n < 257 = omega (arith, frame .room) in
+      let inner : n < places = omega (arith, frame .room) in
       moved-fork frame down (move.Case f h) refl (rw (one-less i, add-one) refl)
       (wrote-above i f (wrote-set i h few inner (wrote-copy frame))) (case-above frame i f h few room) (λ next kept. refl) room
       (at-rest (swapped f p)) (swapped h q) waits refl

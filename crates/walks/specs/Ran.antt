@@ -9,7 +9,7 @@ use lib.Dec.{eqb}
 use lib.ListN.{getD}
 use borrow.Author.Tests.{ne-eqb}
 use Rattle.scope.specs.Logic.Facts.{Fact}
-use Rattle.scope.specs.Call.Answer.{Answer, answer}
+use Rattle.scope.specs.Call.Answer.{Answer}
 use Rattle.scope.specs.Logic.Obligation as O
 use Rattle.scope.specs.Logic.Obligation.{Lab, Phase, Obligation}
 use Rattle.scope.specs.Logic.Room.{within}
@@ -23,12 +23,11 @@ use Rattle.moves.specs.Steps.{pick}
 use Rattle.moves.specs.Judge.{judgeStep}
 use Rattle.machine.specs.declared.Obligation as E
 use Rattle.machine.specs.declared.Walked.{Walked}
-use Rattle.machine.specs.declared.Walked.the-variants.{Granted, Refused}
 use Rattle.machine.specs.Tables.{topChunk}
-use Rattle.machine.specs.Machine.{Stack, State, nothing, obligationAt, stepIn, moved, judgedNow, goOn, ranFrom}
+use Rattle.machine.specs.Machine.{Stack, State, nothing, obligationAt, stepIn, moved, judgedNow, goOn, ranFrom, walkedAnswer}
 use Rattle.walks.specs.Trees.{Reading}
 use Rattle.machine.specs.Turn.{stateOf}
-use Rattle.walks.specs.Related.{Entry, headOf, downFrom, at-goal, at-chunks, Stands, at-rest, in-focus, seq, Waits, metIn, Frame}
+use Rattle.walks.specs.Related.{StackEntry, headOf, downFrom, at-goal, at-chunks, Stands, at-rest, in-focus, seq, Waits, metIn, Standing}
 use Rattle.walks.specs.Related.{Related, all-closed, now-open}
 use Rattle.walks.specs.Views.{head-is}
 use Rattle.walks.specs.Chunks.{one-less, top-is}
@@ -36,11 +35,6 @@ use Rattle.walks.specs.Match.{Match, no-fit, no-room, fits}
 use Rattle.walks.specs.GoalSteps.{goal-steps}
 use Rattle.walks.specs.FocusSteps.{focus-steps}
 use Rattle.walks.specs.ChunkSteps.{chunk-steps}
-
--- This paper's number and values for each of the walk's answers.
-unfoldable pub walkedAnswer : Walked → Answer
-walkedAnswer Granted = answer 0 0
-walkedAnswer (Refused r) = answer (r .number) (r .step)
 
 judged-at : (forms rows : List ℕ) (stack : Stack) (n : ℕ) (cl ats : List ℕ) (x : Step) (o : E.Obligation) →
     getD (stack .obligations) n nothing ≡ o →
@@ -51,9 +45,9 @@ judged-at forms rows stack n cl ats x o top =
     let h : getD (stack .obligations) (suc n - 1) nothing ≡ o = rw (one-less n) top in
     rw (h, one-less n) refl
 
-by-phase : {T : Reading} {rows cl ats ch sv : List ℕ} {stack : Stack} {es : List Entry} {n m c : ℕ} {ph : D.Phase} {fs : List Fact}
+by-phase : {T : Reading} {rows cl ats ch sv : List ℕ} {stack : Stack} {es : List StackEntry} {n m c : ℕ} {ph : D.Phase} {fs : List Fact}
     {ls : List Lab} {p : Phase} {waiting : List Obligation} →
-    Frame T rows stack n cl ats ph m c ch sv fs ls → downFrom stack n ≡ es → Stands T (suc m) ch ph p →
+    Standing T rows stack n cl ats ph m c ch sv fs ls → downFrom stack n ≡ es → Stands T (suc m) ch ph p →
     Waits T rows cl ats (suc m) c es (metIn (seq T (suc m) fs ls) p ++ waiting) → (x : Step) →
     Match T (stateOf rows stack (suc n) cl ats) waiting
     (judgeStep (T .table) rows cl ats ph (topChunk (stack .chunks) n ph) x (suc m) c (suc n))

@@ -1,13 +1,13 @@
 -- How the record of the machine stands for document 01's open obligations. The entries of the stack, from the last opened down, are the
 -- current obligation, the subgoals met in it (the last met first), and those that wait; each is `Rests` of its phase, or `Stands` in focus.
 -- The rows hold the current obligation's facts; a waiting one's were held by rows that these agree with, but for the saved ones.
-use Prim.Native.Nat.{ℕ, zero, suc, _<_, _≤_}
+use Prim.Native.Nat.{ℕ, zero, suc, _*_, _<_, _≤_}
 use mathlib.Core.Path.{_≡_}
 use mathlib.Core.List.{List, [], _∷_, _++_, map}
 use lib.ListN.{length, getD}
 use Rattle.scope.specs.Logic.Form.{Form}
 use Rattle.scope.specs.Logic.Facts.{Fact, Sheet}
-use Rattle.scope.specs.Limits.{mostClauses, mostOpen, mostChunks}
+use Rattle.scope.specs.Limits.{mostPrincipals, mostClauses, mostOpen, mostChunks}
 use Rattle.scope.specs.Logic.Obligation.{Lab, lab, Sequent, Phase, goal, chunks, focus, Obligation, ob}
 use Rattle.facts.specs.Rows.{sfRows}
 use Rattle.facts.specs.Kept.{Kept, Agree}
@@ -16,13 +16,13 @@ use Rattle.moves.specs.declared.Phase.the-variants as phase
 use Rattle.moves.specs.Judge.{rowAt}
 use Rattle.machine.specs.declared.Obligation as E
 use Rattle.machine.specs.Change as numbers
-use Rattle.machine.specs.Tables.{block}
+use Rattle.machine.specs.Tables.{places, clausePlaces, block}
 use Rattle.machine.specs.Machine.{Stack, State, nothing}
 use Rattle.machine.specs.Turn.{stateOf}
 use Rattle.walks.specs.Trees.{Reading}
 
 -- An entry of the stack: what its tables say of one place.
-pub record Entry : Type 0 where
+pub record StackEntry : Type 0 where
   pub head : E.Obligation
   pub chunks : List ℕ
   pub saved : List ℕ
@@ -30,24 +30,24 @@ pub record Entry : Type 0 where
 abbrev pub headOf : D.Phase → ℕ → ℕ → E.Obligation
 headOf ph n c = record { phase = ph; worlds = n; clauses = c }
 
-abbrev pub entry : D.Phase → ℕ → ℕ → List ℕ → List ℕ → Entry
+abbrev pub entry : D.Phase → ℕ → ℕ → List ℕ → List ℕ → StackEntry
 entry ph n c ch sv = record { head = headOf ph n c; chunks = ch; saved = sv }
 
-unfoldable pub entryAt : Stack → ℕ → Entry
+unfoldable pub entryAt : Stack → ℕ → StackEntry
 unfolding block
 entryAt stack i =
-    record { head = getD (stack .obligations) i nothing; chunks = block (stack .chunks) i; saved = block (stack .saved) i }
+    record { head = getD (stack .obligations) i nothing; chunks = block mostChunks (stack .chunks) i; saved = block mostPrincipals (stack .saved) i }
 
 -- The first n entries of the stack, the last of them first.
-unfoldable pub downFrom : Stack → ℕ → List Entry
+unfoldable pub downFrom : Stack → ℕ → List StackEntry
 unfolding entryAt
 downFrom stack zero = []
 downFrom stack (suc n) = entryAt stack n ∷ downFrom stack n
 
 pub record Sized (stack : Stack) : Type 0 where
-  pub obligations : length (stack .obligations) ≡ 257
-  pub chunks : length (stack .chunks) ≡ 4112
-  pub saved : length (stack .saved) ≡ 4112
+  pub obligations : length (stack .obligations) ≡ places
+  pub chunks : length (stack .chunks) ≡ places * mostChunks
+  pub saved : length (stack .saved) ≡ places * mostPrincipals
 
 -- The first n clauses of the clause tables, and the first n chunks of an obligation's, the last on top.
 unfoldable pub labs : (ℕ → Form) → ℕ → List ℕ → List ℕ → List Lab
@@ -87,11 +87,11 @@ abbrev pub seq : Reading → ℕ → List Fact → List Lab → Sequent
 seq T n fs ls = record { sheet = sheetOf T n; facts = fs; clauses = ls }
 
 -- The entries es, from the top down, are the waiting obligations os; none has more worlds than n or more clauses than c.
-pub data Waits (T : Reading) (rows cl ats : List ℕ) : ℕ → ℕ → List Entry → List Obligation → Type 0 where
+pub data Waits (T : Reading) (rows cl ats : List ℕ) : ℕ → ℕ → List StackEntry → List Obligation → Type 0 where
   none-waits : {n c : ℕ} → Waits T rows cl ats n c [] []
-  one-waits : {n c m d : ℕ} {ph : D.Phase} {ch sv r : List ℕ} {es : List Entry} {fs : List Fact} {ls : List Lab}
+  one-waits : {n c m d : ℕ} {ph : D.Phase} {ch sv r : List ℕ} {es : List StackEntry} {fs : List Fact} {ls : List Lab}
       {p : Phase} {os : List Obligation} →
-      suc m ≤ n → d ≤ c → Rests T (suc m) ch ph p → length ch ≡ 16 → Clauses T cl ats d ls →
+      suc m ≤ n → d ≤ c → Rests T (suc m) ch ph p → length ch ≡ mostChunks → Clauses T cl ats d ls →
       Kept (sheetOf T (suc m)) fs r → Agree (suc m) r rows → sv ≡ sfRows r m → Waits T rows cl ats (suc m) d es os →
       Waits T rows cl ats n c (entry ph (suc m) d ch sv ∷ es) (ob (seq T (suc m) fs ls) p ∷ os)
 
@@ -102,21 +102,21 @@ metIn s (chunks c cs g) = []
 metIn s (focus d p w met) = map (λ (g : Lab). ob s (goal g)) met
 
 -- The tables and the current entry, which is number n from the bottom.
-pub record Frame (T : Reading) (rows : List ℕ) (stack : Stack) (n : ℕ) (cl ats : List ℕ)
+pub record Standing (T : Reading) (rows : List ℕ) (stack : Stack) (n : ℕ) (cl ats : List ℕ)
     (ph : D.Phase) (m c : ℕ) (ch sv : List ℕ) (fs : List Fact) (ls : List Lab) : Type 0 where
   pub stack-size : Sized stack
-  pub cl-size : length cl ≡ 257
-  pub ats-size : length ats ≡ 257
+  pub cl-size : length cl ≡ clausePlaces
+  pub ats-size : length ats ≡ clausePlaces
   pub room : n < mostOpen
   pub on-top : entryAt stack n ≡ entry ph (suc m) c ch sv
-  pub chunk-size : length ch ≡ 16
+  pub chunk-size : length ch ≡ mostChunks
   pub clauses : Clauses T cl ats c ls
   pub kept : Kept (sheetOf T (suc m)) fs rows
 
 pub data Related (T : Reading) : State → List Obligation → Type 0 where
   all-closed : {rows cl ats : List ℕ} {stack : Stack} → Related T (stateOf rows stack 0 cl ats) []
-  now-open : {rows cl ats ch sv : List ℕ} {stack : Stack} {es : List Entry} {n m c : ℕ} {ph : D.Phase} {fs : List Fact}
+  now-open : {rows cl ats ch sv : List ℕ} {stack : Stack} {es : List StackEntry} {n m c : ℕ} {ph : D.Phase} {fs : List Fact}
       {ls : List Lab} {p : Phase} {waiting : List Obligation} →
-      Frame T rows stack n cl ats ph m c ch sv fs ls → downFrom stack n ≡ es → Stands T (suc m) ch ph p →
+      Standing T rows stack n cl ats ph m c ch sv fs ls → downFrom stack n ≡ es → Stands T (suc m) ch ph p →
       Waits T rows cl ats (suc m) c es (metIn (seq T (suc m) fs ls) p ++ waiting) →
       Related T (stateOf rows stack (suc n) cl ats) (ob (seq T (suc m) fs ls) p ∷ waiting)

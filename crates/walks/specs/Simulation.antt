@@ -11,13 +11,13 @@ use Rattle.scope.specs.Tools.Unpack.{unpack-length}
 use Rattle.scope.specs.Call.Checked.{checked}
 use Rattle.scope.specs.Call.Judge.{stepsOf, startOf, stepsAnswer}
 use Rattle.trip.specs.Trip.{checked-fine}
-use Rattle.machine.specs.Machine.{begun, ran}
+use Rattle.machine.specs.Machine.{begun, ran, walkedAnswer}
 use Rattle.walks.specs.Unpacked.{line-at, steps-are}
 use Rattle.walks.specs.Passed.{Passed, unrefused-passed}
 use Rattle.walks.specs.Readable.{readingOf}
 use Rattle.walks.specs.Related.{Related}
 use Rattle.walks.specs.Begun.{begun-related}
-use Rattle.walks.specs.Ran.{walkedAnswer, stepsFrom, ran-from}
+use Rattle.walks.specs.Ran.{stepsFrom, ran-from}
 
 -- What the machine begins with stands for the start, and its steps are the request's.
 module _ (t : Lent) (p : Passed t) where

@@ -7,6 +7,7 @@ use native.Mathlib.Omega.{arith}
 use native.Mathlib.Nat.{add-zero, zero-add}
 use lib.ListN.{length, getD, take, length-append}
 use lib.Seq.{take-append-seam, getD-append-seam}
+use Rattle.scope.specs.Limits.{mostPrincipals}
 use Rattle.scope.specs.Logic.Form.{Form, atom, top, bot, and, or, imp, says, sf}
 use Rattle.scope.specs.File.Request.{Row, rowForm, formsAfter, formula}
 use Rattle.moves.specs.Judge.{rowAt}
@@ -48,7 +49,7 @@ pub record Reading : Type 0 where
   pub principals : ℕ
   pub formulas : ℕ
   pub tree : ℕ → Form
-  pub few : principals ≤ 16
+  pub few : principals ≤ mostPrincipals
   pub means : (f : ℕ) → f < formulas →
       Means principals formulas tree (rowAt table f .kind) (rowAt table f .left) (rowAt table f .right) (tree f)
 

@@ -9,15 +9,15 @@ use native.Mathlib.Nat.{eq-or-lt-of-le}
 use lib.ListN.{length, getD, set}
 use lib.Seq.{getD-set-same, getD-set-other}
 use Rattle.scope.specs.Logic.Form.{Form}
-use Rattle.scope.specs.Limits.{mostClauses}
+use Rattle.scope.specs.Limits.{mostPrincipals, mostClauses, mostChunks}
 use Rattle.scope.specs.Logic.Obligation.{Lab, lab, Obligation}
 use Rattle.facts.specs.Kept.{Agree, agree-self, agree-then}
 use Rattle.machine.specs.declared.Obligation as E
-use Rattle.machine.specs.Tables.{block}
+use Rattle.machine.specs.Tables.{clausePlaces, block}
 use Rattle.machine.specs.Machine.{Stack, nothing}
 use Rattle.walks.specs.Trees.{Reading}
 use Rattle.walks.specs.Blocks.{Same, same-block}
-use Rattle.walks.specs.Related.{Entry, entryAt, downFrom, labs, chunksOf, Below, Clauses, Waits, none-waits, one-waits}
+use Rattle.walks.specs.Related.{StackEntry, entryAt, downFrom, labs, chunksOf, Below, Clauses, Waits, none-waits, one-waits}
 
 down-length : (stack : Stack) (n : ℕ) → length (downFrom stack n) ≡ n
 unfolding downFrom
@@ -26,33 +26,33 @@ down-length stack (suc n) = ap suc (down-length stack n)
 
 -- An entry by its parts, and the parts of an entry.
 pub entry-is : (stack : Stack) (i : ℕ) {o : E.Obligation} {ch sv : List ℕ} → getD (stack .obligations) i nothing ≡ o →
-    block (stack .chunks) i ≡ ch → block (stack .saved) i ≡ sv → entryAt stack i ≡ record { head = o; chunks = ch; saved = sv }
+    block mostChunks (stack .chunks) i ≡ ch → block mostPrincipals (stack .saved) i ≡ sv → entryAt stack i ≡ record { head = o; chunks = ch; saved = sv }
 unfolding entryAt
 entry-is stack i p q r = rw (p, q, r) refl
 
-module _ (stack : Stack) (i : ℕ) {e : Entry} (is : entryAt stack i ≡ e) where
+module _ (stack : Stack) (i : ℕ) {e : StackEntry} (is : entryAt stack i ≡ e) where
   pub head-is : getD (stack .obligations) i nothing ≡ e .head
   unfolding entryAt
-  head-is = ap (λ (e : Entry). e .head) is
+  head-is = ap (λ (e : StackEntry). e .head) is
 
-  pub chunks-is : block (stack .chunks) i ≡ e .chunks
+  pub chunks-is : block mostChunks (stack .chunks) i ≡ e .chunks
   unfolding entryAt
-  chunks-is = ap (λ (e : Entry). e .chunks) is
+  chunks-is = ap (λ (e : StackEntry). e .chunks) is
 
-  pub saved-is : block (stack .saved) i ≡ e .saved
+  pub saved-is : block mostPrincipals (stack .saved) i ≡ e .saved
   unfolding entryAt
-  saved-is = ap (λ (e : Entry). e .saved) is
+  saved-is = ap (λ (e : StackEntry). e .saved) is
 
 -- Below place n two stacks are the same where their tables are.
 pub record Under (n : ℕ) (stack stack′ : Stack) : Type 0 where
   pub obligations : (i : ℕ) → i < n → getD (stack′ .obligations) i nothing ≡ getD (stack .obligations) i nothing
-  pub chunks : Same n (stack .chunks) (stack′ .chunks)
-  pub saved : Same n (stack .saved) (stack′ .saved)
+  pub chunks : Same mostChunks n (stack .chunks) (stack′ .chunks)
+  pub saved : Same mostPrincipals n (stack .saved) (stack′ .saved)
 
 pub entry-under : {n : ℕ} {stack stack′ : Stack} (i : ℕ) → i < n → Under n stack stack′ → entryAt stack′ i ≡ entryAt stack i
 unfolding entryAt
 entry-under {stack} {stack′} i h u =
-    entry-is stack′ i (u .obligations i h) (same-block i h (u .chunks)) (same-block i h (u .saved))
+    entry-is stack′ i (u .obligations i h) (same-block mostChunks i h (u .chunks)) (same-block mostPrincipals i h (u .saved))
 
 pub down-under : {m : ℕ} {stack stack′ : Stack} (n : ℕ) → n ≤ m → Under m stack stack′ → downFrom stack′ n ≡ downFrom stack n
 unfolding downFrom
@@ -60,7 +60,7 @@ down-under zero h u = refl
 down-under (suc n) h u = rw (entry-under n h u, down-under n (omega arith) u) refl
 
 -- The current entry and the one above are written.
-pub under-two : (stack : Stack) (n : ℕ) (p q : E.Obligation) {ch sv : List ℕ} → Same n (stack .chunks) ch → Same n (stack .saved) sv →
+pub under-two : (stack : Stack) (n : ℕ) (p q : E.Obligation) {ch sv : List ℕ} → Same mostChunks n (stack .chunks) ch → Same mostPrincipals n (stack .saved) sv →
     Under n stack (record { obligations = set (set (stack .obligations) (suc n) p) n q; chunks = ch; saved = sv })
 under-two stack n p q chunks saved =
     record {
@@ -112,7 +112,7 @@ clauses-set {T} {cl} {ats} {c} i x y h k =
     }
 
 pub clauses-pushed : {T : Reading} {cl ats : List ℕ} {c : ℕ} {ls : List Lab} (x y : ℕ) → x < T .formulas → c < mostClauses →
-    length cl ≡ 257 → length ats ≡ 257 → Clauses T cl ats c ls →
+    length cl ≡ clausePlaces → length ats ≡ clausePlaces → Clauses T cl ats c ls →
     Clauses T (set cl c x) (set ats c y) (suc c) (ls ++ (lab (T .tree x) y ∷ []))
 unfolding labs
 clauses-pushed {T} {cl} {ats} {c} {ls} x y small h p q k =
@@ -126,21 +126,21 @@ clauses-pushed {T} {cl} {ats} {c} {ls} x y small h p q k =
       few = h;
     }
 
-pub waits-set : {T : Reading} {rows cl ats : List ℕ} {n c : ℕ} {es : List Entry} {os : List Obligation} (i x y : ℕ) →
+pub waits-set : {T : Reading} {rows cl ats : List ℕ} {n c : ℕ} {es : List StackEntry} {os : List Obligation} (i x y : ℕ) →
     c ≤ i → Waits T rows cl ats n c es os → Waits T rows (set cl i x) (set ats i y) n c es os
 waits-set i x y h none-waits = none-waits
 waits-set {c} i x y h (one-waits {d} less fewer rests size clauses kept agree saved more) =
     let low : d ≤ i = omega arith in
     one-waits less fewer rests size (clauses-set i x y low clauses) kept agree saved (waits-set i x y low more)
 
-pub waits-rows : {T : Reading} {rows rows′ cl ats : List ℕ} {n c : ℕ} {es : List Entry} {os : List Obligation} →
+pub waits-rows : {T : Reading} {rows rows′ cl ats : List ℕ} {n c : ℕ} {es : List StackEntry} {os : List Obligation} →
     Agree n rows rows′ → Waits T rows cl ats n c es os → Waits T rows′ cl ats n c es os
 waits-rows a none-waits = none-waits
 waits-rows {rows} {rows′} {n} a (one-waits {m} less fewer rests size clauses kept agree saved more) =
     one-waits less fewer rests size clauses kept (agree-then less agree a) saved
     (waits-rows (agree-then less (agree-self (suc m) rows) a) more)
 
-pub waits-wider : {T : Reading} {rows cl ats : List ℕ} {n n′ c c′ : ℕ} {es : List Entry} {os : List Obligation} →
+pub waits-wider : {T : Reading} {rows cl ats : List ℕ} {n n′ c c′ : ℕ} {es : List StackEntry} {os : List Obligation} →
     n ≤ n′ → c ≤ c′ → Waits T rows cl ats n c es os → Waits T rows cl ats n′ c′ es os
 waits-wider h g none-waits = none-waits
 waits-wider {n} {n′} {c} {c′} h g (one-waits {m} {d} less fewer rests size clauses kept agree saved more) =
@@ -148,12 +148,12 @@ waits-wider {n} {n′} {c} {c′} h g (one-waits {m} {d} less fewer rests size c
     let fewer′ : d ≤ c′ = omega arith in
     one-waits less′ fewer′ rests size clauses kept agree saved more
 
-waits-length : {T : Reading} {rows cl ats : List ℕ} {n c : ℕ} {es : List Entry} {os : List Obligation} →
+waits-length : {T : Reading} {rows cl ats : List ℕ} {n c : ℕ} {es : List StackEntry} {os : List Obligation} →
     Waits T rows cl ats n c es os → length es ≡ length os
 waits-length none-waits = refl
 waits-length (one-waits less fewer rests size clauses kept agree saved more) = ap suc (waits-length more)
 
 -- As many wait as entries stand below.
-pub waits-count : {T : Reading} {rows cl ats : List ℕ} {m c : ℕ} {es : List Entry} {os : List Obligation} (stack : Stack)
+pub waits-count : {T : Reading} {rows cl ats : List ℕ} {m c : ℕ} {es : List StackEntry} {os : List Obligation} (stack : Stack)
     (n : ℕ) → downFrom stack n ≡ es → Waits T rows cl ats m c es os → n ≡ length os
 waits-count stack n down waits = sym (down-length stack n) ∙ ap length down ∙ waits-length waits

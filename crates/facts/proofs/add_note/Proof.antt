@@ -1,6 +1,6 @@
 -- `facts::add_note` meets its contract: after c turns the first c principals' rows have taken in what the note gives them.
 use borrow.Author.Needs.{needs}
-use Rattle.facts.specs.Rows.{speaksIn}
+use Rattle.facts.specs.Rows.{principalsMax, speaksIn}
 use Rattle.facts.specs.Bits.{when}
 use lib.Bits.{bitOr}
 use lib.ListN.{getD}
@@ -13,10 +13,10 @@ use Rattle.facts.proofs.add_note.Statement.{statement}
 use Rattle.facts.proofs.add_note.Tie as tie
 
 abbrev Inv-loop : tie.InvT-loop
-Inv-loop rows₀ a saved more at c₀ rows c = (c ≤ 16) × (rows ≡ fill (λ (i : ℕ). bitOr (getD saved i 0) (when (speaksIn saved i (a .0)) more)) at c rows₀)
+Inv-loop rows₀ a saved more at c₀ rows c = (c ≤ principalsMax) × (rows ≡ fill (λ (i : ℕ). bitOr (getD saved i 0) (when (speaksIn saved i (a .0)) more)) at c rows₀)
 
 abbrev μ-loop : tie.MeasureT-loop
-μ-loop rows₀ a saved more at c₀ rows c = 16 - c
+μ-loop rows₀ a saved more at c₀ rows c = principalsMax - c
 
 sf-rows-requires : tie.Need-sf-rows-requires Inv-loop μ-loop
 sf-rows-requires c κs = search needs
@@ -75,7 +75,7 @@ loop-again c = (
 
 returns : tie.Need-returns Inv-loop μ-loop
 returns c =
-    let done : c .before .loop .c ≡ 16 = omega arith in
+    let done : c .before .loop .c ≡ principalsMax = omega arith in
     stored-note _ _ _ _
     (c .before .before .before .before .before .before .sf-rows .ensures)
     (c .before .before .before .get-row .ensures)

@@ -1,6 +1,6 @@
 -- `facts::grow_by` meets its contract: after c turns the first c principals have their row of S to the new world.
 use borrow.Author.Needs.{needs}
-use Rattle.facts.specs.Rows.{seenRow}
+use Rattle.facts.specs.Rows.{principalsMax, seenRow}
 use Rattle.facts.specs.Grown.{stored-by}
 use Rattle.facts.specs.Fill.{fill, fill-more}
 use mathlib.Core.Path.{_≡_, refl}
@@ -10,10 +10,10 @@ use Rattle.facts.proofs.grow_by.Statement.{statement}
 use Rattle.facts.proofs.grow_by.Tie as tie
 
 abbrev Inv-loop : tie.InvT-loop
-Inv-loop rows₀ a saved ways at c₀ rows c = (c ≤ 16) × (rows ≡ fill (seenRow saved ways (a .0)) at c rows₀)
+Inv-loop rows₀ a saved ways at c₀ rows c = (c ≤ principalsMax) × (rows ≡ fill (seenRow saved ways (a .0)) at c rows₀)
 
 abbrev μ-loop : tie.MeasureT-loop
-μ-loop rows₀ a saved ways at c₀ rows c = 16 - c
+μ-loop rows₀ a saved ways at c₀ rows c = principalsMax - c
 
 sf-rows-requires : tie.Need-sf-rows-requires Inv-loop μ-loop
 sf-rows-requires c κs = search needs
@@ -66,7 +66,7 @@ loop-again c = (
 
 returns : tie.Need-returns Inv-loop μ-loop
 returns c =
-    let done : c .before .loop .c ≡ 16 = omega arith in
+    let done : c .before .loop .c ≡ principalsMax = omega arith in
     stored-by _ _ _ _
     (c .before .before .before .before .before .before .before .before .before .sf-rows .ensures)
     (rw (c .before .before .before .before .before .before .place-of .ensures) at (c .before .before .before .before .before .get-row .ensures))

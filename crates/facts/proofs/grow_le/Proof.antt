@@ -1,5 +1,6 @@
 -- `facts::grow_le` meets its contract: after c turns no S fact of the first c principals leads to the new world.
 use borrow.Author.Needs.{needs}
+use Rattle.facts.specs.Rows.{principalsMax}
 use Rattle.facts.specs.Grown.{stored-le}
 use Rattle.facts.specs.Fill.{fill, fill-more}
 use mathlib.Core.Path.{_≡_, refl}
@@ -9,10 +10,10 @@ use Rattle.facts.proofs.grow_le.Statement.{statement}
 use Rattle.facts.proofs.grow_le.Tie as tie
 
 abbrev Inv-loop : tie.InvT-loop
-Inv-loop rows₀ less ways at c₀ rows c = (c ≤ 16) × (rows ≡ fill (λ (i : ℕ). 0) at c rows₀)
+Inv-loop rows₀ less ways at c₀ rows c = (c ≤ principalsMax) × (rows ≡ fill (λ (i : ℕ). 0) at c rows₀)
 
 abbrev μ-loop : tie.MeasureT-loop
-μ-loop rows₀ less ways at c₀ rows c = 16 - c
+μ-loop rows₀ less ways at c₀ rows c = principalsMax - c
 
 place-of-requires : tie.Need-place-of-requires Inv-loop μ-loop
 place-of-requires c κs = search needs
@@ -59,7 +60,7 @@ loop-again c = (
 
 returns : tie.Need-returns Inv-loop μ-loop
 returns c =
-    let done : c .before .loop .c ≡ 16 = omega arith in
+    let done : c .before .loop .c ≡ principalsMax = omega arith in
     stored-le _ _ _
     (rw (c .before .before .before .before .before .before .before .before .before .before .place-of .ensures) at (c .before .before .before .before .before .before .before .before .before .get-row .ensures))
     (rw (c .before .before .before .before .before .before .place-of2 .ensures) at (c .before .before .before .before .before .get-row2 .ensures))

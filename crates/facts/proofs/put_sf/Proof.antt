@@ -1,5 +1,6 @@
 -- `facts::put_sf` meets its contract: after c turns the first c rows are put back.
 use borrow.Author.Needs.{needs}
+use Rattle.facts.specs.Rows.{principalsMax}
 use Rattle.facts.specs.Kept.{stored-back}
 use Rattle.facts.specs.Fill.{fill, fill-more}
 use lib.ListN.{getD}
@@ -10,10 +11,10 @@ use Rattle.facts.proofs.put_sf.Statement.{statement}
 use Rattle.facts.proofs.put_sf.Tie as tie
 
 abbrev Inv-loop : tie.InvT-loop
-Inv-loop rows₀ saved at c₀ rows c = (c ≤ 16) × (rows ≡ fill (λ (i : ℕ). getD saved i 0) at c rows₀)
+Inv-loop rows₀ saved at c₀ rows c = (c ≤ principalsMax) × (rows ≡ fill (λ (i : ℕ). getD saved i 0) at c rows₀)
 
 abbrev μ-loop : tie.MeasureT-loop
-μ-loop rows₀ saved at c₀ rows c = 16 - c
+μ-loop rows₀ saved at c₀ rows c = principalsMax - c
 
 place-of-requires : tie.Need-place-of-requires Inv-loop μ-loop
 place-of-requires c κs = search needs
@@ -51,7 +52,7 @@ loop-again c = (
 
 returns : tie.Need-returns Inv-loop μ-loop
 returns c =
-    let done : c .before .loop .c ≡ 16 = omega arith in
+    let done : c .before .loop .c ≡ principalsMax = omega arith in
     stored-back _ _ _ (c .before .before .place-of .ensures) done (c .before .loop .inv .1)
 
 pub put-sf-spec : {M : Type 1} → statement M

@@ -1,7 +1,7 @@
 -- `facts::root_rows` meets its contract: after c turns the first c principals have themselves in their rows.
 use borrow.Author.Needs.{needs}
 use mathlib.Core.List.{List}
-use Rattle.facts.specs.Rows.{rowsMax, leAt, upAt, sfAt, withRoot, rootRows, oneBit}
+use Rattle.facts.specs.Rows.{principalsMax, rowsMax, leAt, upAt, sfAt, withRoot, rootRows, oneBit}
 use Rattle.facts.specs.Fill.{fill, fill-more}
 use lib.ListN.{set, replicate}
 use mathlib.Core.Path.{_≡_, refl}
@@ -11,10 +11,10 @@ use Rattle.facts.proofs.root_rows.Statement.{statement}
 use Rattle.facts.proofs.root_rows.Tie as tie
 
 abbrev Inv-loop : tie.InvT-loop
-Inv-loop rows₀ le up at c₀ rows c = (c ≤ 16) × (rows ≡ fill oneBit at c rows₀)
+Inv-loop rows₀ le up at c₀ rows c = (c ≤ principalsMax) × (rows ≡ fill oneBit at c rows₀)
 
 abbrev μ-loop : tie.MeasureT-loop
-μ-loop rows₀ le up at c₀ rows c = 16 - c
+μ-loop rows₀ le up at c₀ rows c = principalsMax - c
 
 place-of-requires : tie.Need-place-of-requires Inv-loop μ-loop
 place-of-requires c κs = search needs
@@ -63,7 +63,7 @@ loop-again c = (
 )
 
 -- the stores, one after the other, on any list
-stored : (r : List ℕ) {x y z : List ℕ} {l u a c : ℕ} → l ≡ leAt 0 → u ≡ upAt 0 → a ≡ sfAt 0 → c ≡ 16 →
+stored : (r : List ℕ) {x y z : List ℕ} {l u a c : ℕ} → l ≡ leAt 0 → u ≡ upAt 0 → a ≡ sfAt 0 → c ≡ principalsMax →
     y ≡ set r l 1 → z ≡ set y u 1 → x ≡ fill oneBit a c z → x ≡ withRoot r
 unfolding withRoot
 stored r hl hu ha hc hy hz hx = rw (hc, ha, hz, hy, hu, hl) at hx
@@ -71,7 +71,7 @@ stored r hl hu ha hc hy hz hx = rw (hc, ha, hz, hy, hu, hl) at hx
 returns : tie.Need-returns Inv-loop μ-loop
 unfolding rootRows
 returns c =
-    let done : c .before .loop .c ≡ 16 = omega arith in
+    let done : c .before .loop .c ≡ principalsMax = omega arith in
     stored
     (replicate rowsMax 0)
     (c .before .before .before .before .before .before .before .before .place-of .ensures)

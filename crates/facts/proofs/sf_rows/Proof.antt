@@ -1,6 +1,6 @@
 -- `facts::sf_rows` meets its contract: after c turns the first c rows are read.
 use borrow.Author.Needs.{needs}
-use Rattle.facts.specs.Rows.{sfRows}
+use Rattle.facts.specs.Rows.{principalsMax, sfRows}
 use Rattle.facts.specs.Fill.{fill, fill-front}
 use lib.ListN.{getD}
 use mathlib.Core.Path.{_≡_, refl}
@@ -10,10 +10,10 @@ use Rattle.facts.proofs.sf_rows.Statement.{statement}
 use Rattle.facts.proofs.sf_rows.Tie as tie
 
 abbrev Inv-loop : tie.InvT-loop
-Inv-loop rows at saved₀ c₀ saved c = (c ≤ 16) × (saved ≡ fill (λ (i : ℕ). getD rows (at + i) 0) 0 c saved₀)
+Inv-loop rows at saved₀ c₀ saved c = (c ≤ principalsMax) × (saved ≡ fill (λ (i : ℕ). getD rows (at + i) 0) 0 c saved₀)
 
 abbrev μ-loop : tie.MeasureT-loop
-μ-loop rows at saved₀ c₀ saved c = 16 - c
+μ-loop rows at saved₀ c₀ saved c = principalsMax - c
 
 place-of-requires : tie.Need-place-of-requires Inv-loop μ-loop
 place-of-requires c κs = search needs
@@ -49,7 +49,7 @@ loop-again c = (
 returns : tie.Need-returns Inv-loop μ-loop
 unfolding sfRows
 returns c =
-    let done : c .before .loop .c ≡ 16 = omega arith in
+    let done : c .before .loop .c ≡ principalsMax = omega arith in
     rw (done, c .before .before .place-of .ensures) at (c .before .loop .inv .1)
 
 pub sf-rows-spec : {M : Type 1} → statement M

@@ -1,5 +1,6 @@
 -- `put_chunks` meets its contract: after i turns the first i entries are written.
 use Rattle.machine.specs.Tables.{putBlock}
+use Rattle.scope.specs.Limits.{mostChunks}
 use Rattle.facts.specs.Fill.{fill, fill-more}
 use lib.ListN.{getD}
 use mathlib.Core.Path.{_≡_, refl}
@@ -9,10 +10,10 @@ use Rattle.machine.proofs.blocks.put_chunks.Statement.{statement}
 use Rattle.machine.proofs.blocks.put_chunks.Tie as tie
 
 abbrev Inv-loop : tie.InvT-loop
-Inv-loop t₀ place held at i₀ t i = (i ≤ 16) × (t ≡ fill (λ (k : ℕ). getD held k 0) at i t₀)
+Inv-loop t₀ place held at i₀ t i = (i ≤ mostChunks) × (t ≡ fill (λ (k : ℕ). getD held k 0) at i t₀)
 
 abbrev μ-loop : tie.MeasureT-loop
-μ-loop t₀ place held at i₀ t i = 16 - i
+μ-loop t₀ place held at i₀ t i = mostChunks - i
 
 mul-at : tie.Need-mul-at Inv-loop μ-loop
 mul-at c = omega arith
@@ -48,7 +49,7 @@ loop-again c = (omega arith, fill-more _ _ _ _ (c .before .loop .inv .1) refl re
 returns : tie.Need-returns Inv-loop μ-loop
 unfolding putBlock
 returns c =
-    let done : c .before .loop .i ≡ 16 = omega arith in
+    let done : c .before .loop .i ≡ mostChunks = omega arith in
     rw done at (c .before .loop .inv .1)
 
 pub put-chunks-spec : {M : Type 1} → statement M

@@ -1,6 +1,6 @@
 -- `number_in` meets its contract: each arm knows its answer.
 use borrow.Author.Needs.{needs}
-use Rattle.machine.specs.Turn.{numberIn}
+use Rattle.moves.specs.Steps.{numberIn}
 use Rattle.machine.proofs.walking.number_in.Statement.{statement}
 use Rattle.machine.proofs.walking.number_in.Tie as tie
 

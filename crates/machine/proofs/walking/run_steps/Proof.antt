@@ -6,6 +6,8 @@ use Prim.Native.Nat.{_-_, _<_, _≤_}
 use mathlib.Core.Path.{_≡_, refl, sym, _∙_, ap}
 use lib.ListN.{length, length-set}
 use Rattle.machine.proofs.Fits.{fits-room}
+use Rattle.scope.specs.Limits.{mostOpen}
+use Rattle.machine.specs.Tables.{places}
 use Rattle.machine.specs.Machine.{State, endedAt, ranFrom}
 use Rattle.machine.specs.Turn.{stackOf, stateOf}
 use Rattle.machine.proofs.Turns.{at-first, turn-on, turn-no, turn-late, ended, read-at, judged-is, made-room}
@@ -14,7 +16,7 @@ use Rattle.machine.proofs.walking.run_steps.Tie as tie
 
 abbrev Inv-loop : tie.InvT-loop
 Inv-loop forms steps total rows₀ clauses₀ ats₀ stack₀ chunks₀ saved₀ opened₀ i₀ rows clauses ats stack chunks saved opened i =
-    (i ≤ total) × (opened ≤ 256) × (length stack ≡ 257) ×
+    (i ≤ total) × (opened ≤ mostOpen) × (length stack ≡ places) ×
     (ranFrom forms steps total 0 (stateOf rows₀ (stackOf stack₀ chunks₀ saved₀) opened₀ clauses₀ ats₀) ≡
     ranFrom forms steps (total - i) i (stateOf rows (stackOf stack chunks saved) opened clauses ats))
 
