@@ -3,7 +3,11 @@ ghost use mathlib.Core.Path.{_≡_};
 ghost use Prim.Native.Nat.{_*_, min};
 ghost use lib.ListN.{getD, take};
 ghost use Rattle.scope.specs.Logic.Form.{both};
+ghost use Rattle.scope.specs.Limits.{mostFormulas};
 ghost use Rattle.classes.specs.Class.{bit, goalIn, policyIn, clauseIn, chunkIn, classByte, andClass, orClass, impClass, saysClass, rowClass, classTable};
+
+// How many formulas a table of classes holds.
+pub const FORMULAS: usize = common::MOST_FORMULAS as usize;
 
 // A class byte: 1 a goal, 2 a policy line, 4 a clause, 8 a chunk.
 pub fn is_goal(class: u8) -> bool
@@ -95,13 +99,6 @@ fn row_class(kind: u16, left: u8, right: u8) -> u8
     }
 }
 
-// What stands at a place of a table, 0 past its end.
-pub fn entry_at(table: &[u16], at: usize) -> u16
-    ensures { λ r. ⌜ r ≡ getD (now (table .entry)) at 0 ⌝ }
-{
-    if at < table.len() { table[at] } else { 0 }
-}
-
 // The classes of one of the first `count` formulas, those of `top` for any other.
 fn class_at(classes: &[u8], count: usize, formula: usize) -> u8
     ensures { λ r. ⌜ r ≡ getD (take count (now (classes .entry))) formula 15 ⌝ }
@@ -116,23 +113,23 @@ fn class_at(classes: &[u8], count: usize, formula: usize) -> u8
 }
 
 fn at_most(formulas: u16) -> usize
-    ensures { λ r. ⌜ r ≡ min formulas 1024 ⌝ }
+    ensures { λ r. ⌜ r ≡ min formulas mostFormulas ⌝ }
 {
     let n = formulas as usize;
-    if n < 1024 { n } else { 1024 }
+    if n < FORMULAS { n } else { FORMULAS }
 }
 
-pub fn classes_of(forms: &[u16], formulas: u16) -> [u8; 1024]
+pub fn classes_of(forms: &[u16], formulas: u16) -> [u8; FORMULAS]
     ensures { λ r. ⌜ r ≡ classTable (now (forms .entry)) formulas ⌝ }
 {
     let count = at_most(formulas);
-    let mut classes = [0u8; 1024];
+    let mut classes = [0u8; FORMULAS];
     let mut i: usize = 0;
     while i < count {
         let at = 3 * i;
-        let kind = entry_at(forms, at);
-        let left = class_at(&classes, i, entry_at(forms, at + 1) as usize);
-        let right = class_at(&classes, i, entry_at(forms, at + 2) as usize);
+        let kind = common::entry_at(forms, at);
+        let left = class_at(&classes, i, common::entry_at(forms, at + 1) as usize);
+        let right = class_at(&classes, i, common::entry_at(forms, at + 2) as usize);
         let class = row_class(kind, left, right);
         classes[i] = class;
         i += 1;

@@ -11,8 +11,8 @@ use Rattle.scope.specs.Call.Tables.{lentOf}
 use Rattle.scope.specs.Call.Calls.{formTableAfter, lineTableAfter, stepTableAfter, requestIn}
 use Rattle.scope.specs.Call.Judge.{judge, prints, printed, gate}
 use Rattle.scope.specs.Call.Judge as J
-use Rattle.counts.specs.declared.Counts.{Counts}
-use Rattle.counts.specs.declared.Refusal.{Refusal}
+use Rattle.common.specs.declared.Counts.{Counts}
+use Rattle.common.specs.declared.Refusal.{Refusal}
 use Rattle.tables.specs.Met.{lentWith}
 use Rattle.reader.specs.declared.Reading.{Reading}
 use Rattle.reader.specs.declared.Reading.the-variants as Reading
@@ -46,7 +46,7 @@ printed-answer (S.answer k place) n = refl
 
 -- The tables as reading leaves them, with the counts that it answers, say the request that was read.
 lent-is : (q : Request) →
-    lentWith (countsOf q) (formTableAfter 3072 (read q)) (lineTableAfter 128 (read q)) (stepTableAfter 4096 (read q))
+    lentWith (countsOf q) (formTableAfter (3 * mostFormulas) (read q)) (lineTableAfter mostPolicyLines (read q)) (stepTableAfter (2 * mostSteps) (read q))
     ≡ lentOf (3 * mostFormulas) mostPolicyLines (2 * mostSteps) q
 unfolding formTableAfter lineTableAfter stepTableAfter requestIn lentOf
 lent-is q = refl
@@ -56,7 +56,7 @@ put a n = record { answer = a .refusal; place = a .place; steps = n }
 
 -- What the gate puts together from the judge's answer and the count of steps.
 pub read-prints : (s : List ℕ) (c : Counts) (forms lines steps : List ℕ) (a : Answer) → readingOf (gateReads s) ≡ Reading.Read c →
-    forms ≡ formTableAfter 3072 (gateReads s) → lines ≡ lineTableAfter 128 (gateReads s) → steps ≡ stepTableAfter 4096 (gateReads s) →
+    forms ≡ formTableAfter (3 * mostFormulas) (gateReads s) → lines ≡ lineTableAfter mostPolicyLines (gateReads s) → steps ≡ stepTableAfter (2 * mostSteps) (gateReads s) →
     a ≡ answerOf (judge (lentWith c forms lines steps)) → put a (c .steps) ≡ printedOf (gate s)
 unfolding readingOf
 read-prints s c forms lines steps a e f l p j = go (gateReads s) refl e
@@ -67,11 +67,11 @@ read-prints s c forms lines steps a e f l p j = go (gateReads s) refl e
         let k : countsOf q ≡ c = cc in
         let t : lentWith c forms lines steps ≡ lentOf (3 * mostFormulas) mostPolicyLines (2 * mostSteps) q =
         ap (λ x. lentWith x forms lines steps) (sym k) ∙
-        ap (λ x. lentWith (countsOf q) x lines steps) (f ∙ ap (formTableAfter 3072) d) ∙
-        ap (λ x. lentWith (countsOf q) (formTableAfter 3072 (read q)) x steps) (l ∙ ap (lineTableAfter 128) d) ∙
+        ap (λ x. lentWith (countsOf q) x lines steps) (f ∙ ap (formTableAfter (3 * mostFormulas)) d) ∙
+        ap (λ x. lentWith (countsOf q) (formTableAfter (3 * mostFormulas) (read q)) x steps) (l ∙ ap (lineTableAfter mostPolicyLines) d) ∙
         ap
-        (λ x. lentWith (countsOf q) (formTableAfter 3072 (read q)) (lineTableAfter 128 (read q)) x)
-        (p ∙ ap (stepTableAfter 4096) d) ∙
+        (λ x. lentWith (countsOf q) (formTableAfter (3 * mostFormulas) (read q)) (lineTableAfter mostPolicyLines (read q)) x)
+        (p ∙ ap (stepTableAfter (2 * mostSteps)) d) ∙
         lent-is q in
         let b = judge (lentOf (3 * mostFormulas) mostPolicyLines (2 * mostSteps) q) in
         let z : a ≡ answerOf b = j ∙ ap (λ x. answerOf (judge x)) t in

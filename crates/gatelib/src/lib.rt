@@ -32,9 +32,9 @@ fn unread_by(got: Reading) -> Printed
 pub fn gate(file: &[u8]) -> Printed
     ensures { λ r. ⌜ r ≡ printedOf (gate' (now (file .entry))) ⌝ }
 {
-    let mut forms = [0u16; 3072];
-    let mut lines = [0u16; 128];
-    let mut steps = [0u16; 4096];
+    let mut forms = [0u16; common::FORM_ROOM];
+    let mut lines = [0u16; common::POLICY_ROOM];
+    let mut steps = [0u16; common::STEP_ROOM];
     let got = reader::read_request(file, &mut forms, &mut lines, &mut steps);
     let Reading::Read(counts) = got else {
         return unread_by(got);

@@ -6,7 +6,7 @@ use Rattle.scope.specs.Call.Answer.{answer}
 use Rattle.scope.specs.Call.Tables.{Lent, requestOf}
 use Rattle.scope.specs.Call.Checked.{checked}
 use Rattle.scope.specs.Call.Judge.{stepsAnswer, judge, else}
-use Rattle.counts.specs.declared.Refusal.{Refusal}
+use Rattle.common.specs.declared.Refusal.{Refusal}
 use Rattle.tables.specs.declared.Checked.the-variants.{Fine, Refused}
 use Rattle.tables.specs.Met.{checkedOf}
 use Rattle.machine.specs.declared.Walked.{Walked}

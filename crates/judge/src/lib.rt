@@ -3,7 +3,7 @@ ghost use mathlib.Core.Path.{_≡_};
 ghost use Rattle.scope.specs.Call.Judge.{judge as judge'};
 ghost use Rattle.tables.specs.Met.{lentWith};
 ghost use Rattle.judge.specs.Answers.{answerOf, refusalAnswer, walkedTo};
-use counts::Counts;
+use common::Counts;
 use machine::Walked;
 use machine::walking;
 use tables::Checked;

@@ -9,7 +9,7 @@ ghost use Rattle.writer.specs.Writing.{writingOf};
 ghost use Rattle.judge.specs.Answers.{answerOf};
 ghost use Rattle.gatelib.specs.Printing.{printedOf};
 ghost use Rattle.peraduksi.specs.Read.{readOf, readIn};
-use counts::Counts;
+use common::Counts;
 use gatelib::Printed;
 use judge::Answer;
 use reader::Reading;

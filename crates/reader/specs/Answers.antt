@@ -8,8 +8,8 @@ use Rattle.scope.specs.File.Line.{Value, val, out, Read, ok, bad}
 use Rattle.scope.specs.File.Reader.{Outcome, read, refused}
 use Rattle.scope.specs.Call.Answer.{Answer, answer}
 use Rattle.scope.specs.Call.Calls.{outcomeAnswer, noRequest, requestIn}
-use Rattle.counts.specs.declared.Counts.{Counts}
-use Rattle.counts.specs.declared.Refusal.{Refusal}
+use Rattle.common.specs.declared.Counts.{Counts}
+use Rattle.common.specs.declared.Refusal.{Refusal}
 use Rattle.steps.specs.Steps.{stepFrom}
 use Rattle.reader.specs.Sections.{Counted, Formulas, PolicyRead}
 use Rattle.reader.specs.declared.Reading.{Reading}

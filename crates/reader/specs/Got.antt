@@ -8,7 +8,7 @@ use Rattle.scope.specs.File.Request.{Row}
 use Rattle.scope.specs.File.Line.{Read, ok, bad, Reader}
 use Rattle.scope.specs.Call.Tables.{Entry, table}
 use Rattle.lines.specs.Parts.{tail-part}
-use Rattle.counts.specs.declared.Refusal.{Refusal}
+use Rattle.common.specs.declared.Refusal.{Refusal}
 use Rattle.reader.specs.Sections.{Counted, Formulas, PolicyRead}
 use Rattle.reader.specs.Answers.{sectionOf, headOf, formulasOf, policySection, stepSection}
 use Rattle.reader.specs.Many.{Ends, tail-drop}

@@ -11,7 +11,7 @@ use Rattle.scope.specs.File.Bytes.{bytes}
 use Rattle.scope.specs.File.Number.{number}
 use Rattle.scope.specs.File.Request.{Row, goalClass, policyClass}
 use Rattle.scope.specs.File.Line.{Read, ok, bad, shapedAs, line, andThen, _>>=_, many}
-use Rattle.scope.specs.Limits.{mostFormulas, clausesAt, clauseAt, goalAt, stepsAt}
+use Rattle.scope.specs.Limits.{mostFormulas, mostPolicyLines, mostSteps, clausesAt, clauseAt, goalAt, stepsAt}
 use Rattle.scope.specs.File.Refusals.{demand, countRefusal, clausesRefusal, stepsRefusal, clauseRefusal, goalRefusal}
 use Rattle.scope.specs.File.Text.{clausesLine, clauseLine, goalLine, stepsLine}
 use Rattle.scope.specs.Call.Tables.{formEntry, lineEntry, stepEntry, table, unpack}
@@ -20,7 +20,7 @@ use Rattle.classes.specs.Class.{goalIn, policyIn, classTable}
 use Rattle.classes.specs.Rows.{unpack-length}
 use Rattle.classes.specs.Laws.{goal-at, policy-at}
 use Rattle.lines.specs.Parts.{valueOf, restOf}
-use Rattle.counts.specs.declared.Refusal.{Refusal}
+use Rattle.common.specs.declared.Refusal.{Refusal}
 use Rattle.refusals.specs.Rows.{classRefusal}
 use Rattle.reader.specs.Sections.{Counted, Formulas, PolicyRead, headPart, formulasPart, policyPart, stepsPart, classedItem}
 use Rattle.reader.specs.Answers.{numberLineOf, sectionOf, headOf, formulasOf, policySection, stepSection}
@@ -191,10 +191,10 @@ abbrev rows : List ℕ → ℕ → List Row
 rows numbers n = unpack formEntry n numbers
 
 pub clauses-stopped : (numbers : List ℕ) (n : ℕ) (s : List ℕ) (k : ℕ)
-    → numberLineOf (shapedAs (countRefusal 0 128) (number (valueOf (bytes "clauses=") s))) ≡ NumberLine.Refused k
-    → policyPart (unpack formEntry n numbers) s ≡ bad k (5 + n)
+    → numberLineOf (shapedAs (countRefusal 0 mostPolicyLines) (number (valueOf (bytes "clauses=") s))) ≡ NumberLine.Refused k
+    → policyPart (unpack formEntry n numbers) s ≡ bad k (clausesAt n)
 clauses-stopped numbers n s k e =
-    policy-1 (rows numbers n) s k (5 + n)
+    policy-1 (rows numbers n) s k (clausesAt n)
     (number-bad "clauses=" clausesRefusal (clausesAt (length (rows numbers n))) s k e ∙
     ap (λ j. bad k (clausesAt j)) (unpack-length formEntry n numbers))
 
@@ -202,7 +202,7 @@ clauses-stopped numbers n s k e =
 pub record Clauses-kept (numbers : List ℕ) (n : ℕ) (s : List ℕ) : Type 0 where
   pub small : n ≤ mostFormulas
   pub count : ℕ
-  pub counted : numberLineOf (shapedAs (countRefusal 0 128) (number (valueOf (bytes "clauses=") s))) ≡ NumberLine.Number count
+  pub counted : numberLineOf (shapedAs (countRefusal 0 mostPolicyLines) (number (valueOf (bytes "clauses=") s))) ≡ NumberLine.Number count
   pub rest : List ℕ
   pub behind : rest ≡ restOf s
   pub classes : List ℕ
@@ -249,11 +249,11 @@ module _ {numbers : List ℕ} {n : ℕ} {s : List ℕ} (k : Clauses-kept numbers
     lines-place = omega (arith, linesGot .place)
 
     pub goal-stopped : (j : ℕ) → goalAnswer (partFrom (m .at) (k .rest)) ≡ NumberLine.Refused j
-        → policyPart (unpack formEntry n numbers) s ≡ bad j (6 + n + k .count)
+        → policyPart (unpack formEntry n numbers) s ≡ bad j (goalAt n (k .count))
     goal-stopped j e =
-        let place : goalAt (length (rows numbers n)) (length (linesGot .things)) ≡ 6 + n + k .count = omega
+        let place : goalAt (length (rows numbers n)) (length (linesGot .things)) ≡ goalAt n (k .count) = omega
         (arith, many-lines, unpack-length formEntry n numbers) in
-        policy-3 (rows numbers n) s (k .count) (k .rest) (linesGot .things) (linesGot .rest) j (6 + n + k .count) first (sym same-items ∙ linesGot .is)
+        policy-3 (rows numbers n) s (k .count) (k .rest) (linesGot .things) (linesGot .rest) j (goalAt n (k .count)) first (sym same-items ∙ linesGot .is)
         (number-bad "goal=" (goalRefusal (rows numbers n)) (goalAt (length (rows numbers n)) (length (linesGot .things))) (linesGot .rest) j
         (goal-asked (NumberLine.Refused j) e) ∙ ap (λ h. bad j h) place)
 
@@ -298,14 +298,14 @@ module _ (formulas clauses : ℕ) (s : List ℕ) where
   unfolding stepsPart _>>=_ andThen
   steps-2 c t e = rw e refl
 
-  pub steps-stopped : (k : ℕ) → numberLineOf (shapedAs (countRefusal 1 2048) (number (valueOf (bytes "steps=") s))) ≡ NumberLine.Refused k
-      → stepsPart formulas clauses s ≡ bad k (7 + formulas + clauses)
-  steps-stopped k e = steps-1 k (7 + formulas + clauses) (number-bad "steps=" stepsRefusal (stepsAt formulas clauses) s k e)
+  pub steps-stopped : (k : ℕ) → numberLineOf (shapedAs (countRefusal 1 mostSteps) (number (valueOf (bytes "steps=") s))) ≡ NumberLine.Refused k
+      → stepsPart formulas clauses s ≡ bad k (stepsAt formulas clauses)
+  steps-stopped k e = steps-1 k (stepsAt formulas clauses) (number-bad "steps=" stepsRefusal (stepsAt formulas clauses) s k e)
 
 -- The count of steps and the text behind it, as the code has them.
 pub record Steps-counted (formulas clauses : ℕ) (s : List ℕ) : Type 0 where
   pub count : ℕ
-  pub counted : numberLineOf (shapedAs (countRefusal 1 2048) (number (valueOf (bytes "steps=") s))) ≡ NumberLine.Number count
+  pub counted : numberLineOf (shapedAs (countRefusal 1 mostSteps) (number (valueOf (bytes "steps=") s))) ≡ NumberLine.Number count
   pub rest : List ℕ
   pub behind : rest ≡ restOf s
 

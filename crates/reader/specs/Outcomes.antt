@@ -1,5 +1,5 @@
 -- The outcome of a whole file from the answers about its sections, and of a call from the outcome of the file.
-use Prim.Native.Nat.{ℕ, _+_, _≤_, _<_}
+use Prim.Native.Nat.{ℕ, _+_, _*_, _≤_, _<_}
 use native.Mathlib.Omega.{arith}
 use mathlib.Core.Path.{_≡_, refl, ap, sym, _∙_}
 use mathlib.Core.List.{List, [], _∷_}
@@ -11,12 +11,12 @@ use Rattle.scope.specs.Tools.Tests.{never}
 use Rattle.scope.specs.Logic.Form.{both}
 use Rattle.scope.specs.File.Request.{Row, Request}
 use Rattle.scope.specs.File.Line.{Read, ok, bad, andThen, _>>=_}
-use Rattle.scope.specs.Limits.{endAt}
+use Rattle.scope.specs.Limits.{mostBytes, mostFormulas, mostPolicyLines, mostSteps, endAt}
 use Rattle.scope.specs.File.Reader.{Outcome, read, refused, ended, readRequest}
 use Rattle.scope.specs.Call.Tables.{formEntry, lineEntry, stepEntry, table, unpack, hasRoom}
 use Rattle.scope.specs.Call.Calls.{reading, requestIn, formTableAfter, lineTableAfter, stepTableAfter}
-use Rattle.counts.specs.declared.Counts.{Counts}
-use Rattle.counts.specs.declared.Refusal.{Refusal}
+use Rattle.common.specs.declared.Counts.{Counts}
+use Rattle.common.specs.declared.Refusal.{Refusal}
 use Rattle.reader.specs.Sections.{Formulas, PolicyRead, formulasPart, policyPart, stepsPart}
 use Rattle.reader.specs.Answers.{readingOf, formulasOf, policySection, stepSection}
 use Rattle.reader.specs.Many.{tail-length}
@@ -183,7 +183,7 @@ module _ {t : List ℕ} (k : Formulas-kept t) where
       over-short = tail-length (sg .rest) (behindPolicy p)
           (steps-ends (k .count) (p .count) .ends (behindPolicy p) (sg .rows) (sg .rest) (sg .is))
 
-      pub bytes-after : s .at < length (behindPolicy p) → readRequest t ≡ refused 6 (8 + k .count + p .count + s .count)
+      pub bytes-after : s .at < length (behindPolicy p) → readRequest t ≡ refused 6 (endAt (k .count) (p .count) (s .count))
       bytes-after l =
           read-over t joined (sg .rest) all-lines (omega (arith, sg .place)) ∙
           (λ i. refused 6 (endAt (sym (fg .count) i) (sym (pg .count) i) (sym (sg .count) i)))
@@ -260,13 +260,13 @@ module _ (forms lines steps : ℕ) (s : List ℕ) where
   unfolding reading
   no-room e = rw e refl
 
-  pub too-long : hasRoom forms lines steps ≡ true → 65536 < length s → reading forms lines steps s ≡ refused 1 0
+  pub too-long : hasRoom forms lines steps ≡ true → mostBytes < length s → reading forms lines steps s ≡ refused 1 0
   unfolding reading
-  too-long e h = rw (e, lt-leb (length s) 65536 h) refl
+  too-long e h = rw (e, lt-leb (length s) mostBytes h) refl
 
-  pub in-order : hasRoom forms lines steps ≡ true → length s ≤ 65536 → reading forms lines steps s ≡ readRequest s
+  pub in-order : hasRoom forms lines steps ≡ true → length s ≤ mostBytes → reading forms lines steps s ≡ readRequest s
   unfolding reading
-  in-order e h = rw (e, le-leb (length s) 65536 h) refl
+  in-order e h = rw (e, le-leb (length s) mostBytes h) refl
 
 -- The tables andThen a refusal, and andThen a request was read.
 module _ (len : ℕ) (o : Outcome) where
@@ -312,16 +312,16 @@ tables-zero {forms} {lines} {steps} k o x e = (
 
 -- Room for the largest counts.
 pub record Room (forms lines steps : ℕ) : Type 0 where
-  pub formRoom : 3072 ≤ forms
-  pub lineRoom : 128 ≤ lines
-  pub stepRoom : 4096 ≤ steps
+  pub formRoom : (3 * mostFormulas) ≤ forms
+  pub lineRoom : mostPolicyLines ≤ lines
+  pub stepRoom : (2 * mostSteps) ≤ steps
 
 pub room-is : (forms lines steps : ℕ) → hasRoom forms lines steps ≡ true → Room forms lines steps
 unfolding hasRoom both
-room-is forms lines steps e = go (leb 3072 forms) (leb 128 lines) (leb 4096 steps) refl refl refl e
+room-is forms lines steps e = go (leb (3 * mostFormulas) forms) (leb mostPolicyLines lines) (leb (2 * mostSteps) steps) refl refl refl e
   where
-    go : (a b c : Bool) → leb 3072 forms ≡ a → leb 128 lines ≡ b → leb 4096 steps ≡ c → both a (both b c) ≡ true → Room forms lines steps
-    go true true true p q r e = record { formRoom = leb-true 3072 forms p; lineRoom = leb-true 128 lines q; stepRoom = leb-true 4096 steps r }
+    go : (a b c : Bool) → leb (3 * mostFormulas) forms ≡ a → leb mostPolicyLines lines ≡ b → leb (2 * mostSteps) steps ≡ c → both a (both b c) ≡ true → Room forms lines steps
+    go true true true p q r e = record { formRoom = leb-true (3 * mostFormulas) forms p; lineRoom = leb-true mostPolicyLines lines q; stepRoom = leb-true (2 * mostSteps) steps r }
     go true true false p q r e = never cc
     go true false c p q r e = never cc
     go false b c p q r e = never cc

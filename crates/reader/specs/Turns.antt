@@ -12,14 +12,14 @@ use Rattle.scope.specs.File.Request.{Row}
 use Rattle.scope.specs.File.Line.{Value, val, out, Read, ok, bad, Reader, shapedAs, line, andThen, _>>=_, many}
 use Rattle.scope.specs.Call.Tables.{Entry, table, formEntry, lineEntry, stepEntry}
 use Rattle.scope.specs.File.Kinds.{formKinds, stepKinds, rowIn}
-use Rattle.scope.specs.Limits.{versionAt, principalsAt, atomsAt, formulasAt, clauseAt, stepAt}
+use Rattle.scope.specs.Limits.{versionAt, principalsAt, atomsAt, formulasAt, formAt, clauseAt, stepAt}
 use Rattle.scope.specs.File.Refusals.{rowRefusal, formRefusal, stepRefusal, versionRefusal, principalsRefusal, atomsRefusal, formulasRefusal}
 use Rattle.scope.specs.File.Text.{versionLine, principalsLine, atomsLine, formulasLine}
 use Rattle.scope.specs.File.Reader.{formItem, stepItem}
 use Rattle.classes.specs.Class.{policyIn}
 use Rattle.lines.specs.Parts.{valueOf, restOf}
 use Rattle.lines.specs.Values.{Behind}
-use Rattle.counts.specs.declared.Refusal.{Refusal}
+use Rattle.common.specs.declared.Refusal.{Refusal}
 use Rattle.steps.specs.declared.Step.{Step}
 use Rattle.steps.specs.declared.Pair.{Pair}
 use Rattle.steps.specs.Steps.{pairOf}
@@ -131,15 +131,15 @@ module _ (principals atoms : ℕ) {n : ℕ} {text : List ℕ} {len : ℕ} {numbe
       → shapedAs (rowRefusal formKinds principals atoms (length (k .before))) (rowIn formKinds (q .value)) ≡ a
   at-length a e = subst (λ j. shapedAs (rowRefusal formKinds principals atoms j) (rowIn formKinds (q .value)) ≡ a) (sym (k .count)) e
 
-  pub form-stops : {X : List Row → List ℕ → Type 0} (j : ℕ) → q .answer ≡ RowLine.Refused j → (x : Refusal) → x ≡ refusalIs j (5 + i)
+  pub form-stops : {X : List Row → List ℕ → Type 0} (j : ℕ) → q .answer ≡ RowLine.Refused j → (x : Refusal) → x ≡ refusalIs j (formAt i)
       → (Section.Refused x ≡ sectionOf (length text) (many (formItem principals atoms) n [] text)) ×
       ((rows : List Row) (over : List ℕ) → many (formItem principals atoms) n [] text ≡ ok rows over → X rows over)
   unfolding formRefusal
   form-stops j e x d =
-      turn-stops formEntry (formItem principals atoms) n text k h j (5 + i)
-      (row-bad "form=" formKinds (formRefusal principals atoms (k .before)) s (q .value) (q .part) no-form (5 + length (k .before)) j
+      turn-stops formEntry (formItem principals atoms) n text k h j (formAt i)
+      (row-bad "form=" formKinds (formRefusal principals atoms (k .before)) s (q .value) (q .part) no-form (formAt (length (k .before))) j
       (at-length (out j) (out-row (shapedAs (rowRefusal formKinds principals atoms i) (rowIn formKinds (q .value))) j (sym (q .about) ∙ e))) ∙
-      ap (λ m. bad j (5 + m)) (k .count)) x d
+      ap (λ m. bad j (formAt m)) (k .count)) x d
 
   module _ (a l r : ℕ) (e : q .answer ≡ RowLine.Row a l r) where
     form-is : shapedAs (rowRefusal formKinds principals atoms i) (rowIn formKinds (q .value)) ≡ val (row a l r)
@@ -153,7 +153,7 @@ module _ (principals atoms : ℕ) {n : ℕ} {text : List ℕ} {len : ℕ} {numbe
     unfolding formRefusal
     form-turn room =
         turn-more formEntry (formItem principals atoms) n text k h (row a l r) (length (q .value) + 6) form-behind
-        (row-ok "form=" formKinds (formRefusal principals atoms (k .before)) s (q .value) (q .part) no-form (5 + length (k .before))
+        (row-ok "form=" formKinds (formRefusal principals atoms (k .before)) s (q .value) (q .part) no-form (formAt (length (k .before)))
         (partFrom (length (q .value) + 6) s) a l r (form-behind .rest) (at-length (val (row a l r)) form-is))
         (set (set (set numbers (3 * i) a) (3 * i + 1) l) (3 * i + 2) r) (simp length-set)
         (form-more len numbers (3 * i) (k .before) a l r (k .stored) (omega (arith, k .count)) room)
@@ -166,11 +166,11 @@ module _ (classes : List ℕ) (formulas : ℕ) {n : ℕ} {text : List ℕ} {len 
     (k : Turns lineEntry (classedItem classes formulas) n text len numbers s i) (h : i < n)
     (q : Line-asked "clause=" (clauseAsked classes formulas) s) where
   pub clause-stops : {X : List ℕ → List ℕ → Type 0} (j : ℕ) → q .answer ≡ NumberLine.Refused j → (x : Refusal)
-      → x ≡ refusalIs j (6 + formulas + i)
+      → x ≡ refusalIs j (clauseAt formulas i)
       → (Section.Refused x ≡ sectionOf (length text) (many (classedItem classes formulas) n [] text)) ×
       ((lines : List ℕ) (over : List ℕ) → many (classedItem classes formulas) n [] text ≡ ok lines over → X lines over)
   clause-stops j e x d =
-      turn-stops lineEntry (classedItem classes formulas) n text k h j (6 + formulas + i)
+      turn-stops lineEntry (classedItem classes formulas) n text k h j (clauseAt formulas i)
       (value-bad "clause=" (classRefusal policyIn classes formulas) s (q .value) (q .part) (clauseAt formulas (length (k .before))) j
       (sym (q .about) ∙ e) ∙ ap (λ m. bad j (clauseAt formulas m)) (k .count)) x d
 
@@ -193,12 +193,12 @@ stepAsked v = stepLineOf (shapedAs stepRefusal (rowIn stepKinds v))
 module _ (formulas clauses : ℕ) {n : ℕ} {text : List ℕ} {len : ℕ} {numbers s : List ℕ} {i : ℕ}
     (k : Turns stepEntry (stepItem formulas clauses) n text len numbers s i) (h : i < n) (q : Line-asked "step=" stepAsked s) where
   pub step-stops : {X : List Row → List ℕ → Type 0} (j : ℕ) → q .answer ≡ StepLine.Refused j → (x : Refusal)
-      → x ≡ refusalIs j (8 + formulas + clauses + i)
+      → x ≡ refusalIs j (stepAt formulas clauses (suc i))
       → (Section.Refused x ≡ sectionOf (length text) (many (stepItem formulas clauses) n [] text)) ×
       ((rows : List Row) (over : List ℕ) → many (stepItem formulas clauses) n [] text ≡ ok rows over → X rows over)
   step-stops j e x d =
-      let place : stepAt formulas clauses (suc (length (k .before))) ≡ 8 + formulas + clauses + i = omega (arith, k .count) in
-      turn-stops stepEntry (stepItem formulas clauses) n text k h j (8 + formulas + clauses + i)
+      let place : stepAt formulas clauses (suc (length (k .before))) ≡ stepAt formulas clauses (suc i) = omega (arith, k .count) in
+      turn-stops stepEntry (stepItem formulas clauses) n text k h j (stepAt formulas clauses (suc i))
       (row-bad "step=" stepKinds stepRefusal s (q .value) (q .part) no-step (stepAt formulas clauses (suc (length (k .before)))) j
       (out-step (shapedAs stepRefusal (rowIn stepKinds (q .value))) j (sym (q .about) ∙ e)) ∙ ap (λ m. bad j m) place) x d
 

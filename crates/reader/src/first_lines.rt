@@ -5,6 +5,7 @@ use lines::Number;
 ghost use mathlib.Core.Path.{_≡_};
 ghost use Prim.Native.Nat.{_≤_};
 ghost use lib.ListN.{length};
+ghost use Rattle.scope.specs.Limits.{mostFormulas};
 ghost use Rattle.scope.specs.File.Number.{number};
 ghost use Rattle.scope.specs.File.Line.{shapedAs};
 ghost use Rattle.scope.specs.File.Refusals.{countRefusal};
@@ -32,26 +33,26 @@ pub(crate) fn count_line(text: &[u8], key: &[u8], least: u16, most: u16) -> Numb
 
 pub(crate) fn read_head(text: &[u8]) -> Head
     ensures { λ r. ⌜ r ≡ headOf (length (now (text .entry))) (headPart (now (text .entry))) ⌝ }
-    ensures { λ r. ⌜ formulaCount r ≤ 1024 ⌝ }
+    ensures { λ r. ⌜ formulaCount r ≤ mostFormulas ⌝ }
 {
     let version = count_line(text, b"version=", 1, 1);
     let NumberLine::Number(_) = version else {
-        return Head::Refused(crate::number_refused(version, 1));
+        return Head::Refused(crate::number_refused(version, common::version_at()));
     };
     let second = lines::rest_of(text);
-    let principals = count_line(second, b"principals=", 1, 16);
+    let principals = count_line(second, b"principals=", 1, common::MOST_PRINCIPALS);
     let NumberLine::Number(p) = principals else {
-        return Head::Refused(crate::number_refused(principals, 2));
+        return Head::Refused(crate::number_refused(principals, common::principals_at()));
     };
     let third = lines::rest_of(second);
-    let atoms = count_line(third, b"atoms=", 1, 256);
+    let atoms = count_line(third, b"atoms=", 1, common::MOST_ATOMS);
     let NumberLine::Number(a) = atoms else {
-        return Head::Refused(crate::number_refused(atoms, 3));
+        return Head::Refused(crate::number_refused(atoms, common::atoms_at()));
     };
     let fourth = lines::rest_of(third);
-    let formulas = count_line(fourth, b"formulas=", 1, 1024);
+    let formulas = count_line(fourth, b"formulas=", 1, common::MOST_FORMULAS);
     let NumberLine::Number(f) = formulas else {
-        return Head::Refused(crate::number_refused(formulas, 4));
+        return Head::Refused(crate::number_refused(formulas, common::formulas_at()));
     };
     let rest = lines::rest_of(fourth);
     let at = text.len() - rest.len();

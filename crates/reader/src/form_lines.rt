@@ -4,10 +4,11 @@ use crate::RowLine;
 use crate::Section;
 use lines::Row;
 ghost use mathlib.Core.Path.{_≡_};
-ghost use Prim.Native.Nat.{_≤_};
+ghost use Prim.Native.Nat.{_*_, _≤_};
 ghost use mathlib.Core.List.{List, []};
 ghost use Prim.Native.Nat.{ℕ};
 ghost use lib.ListN.{length, replicate};
+ghost use Rattle.scope.specs.Limits.{mostFormulas};
 ghost use Rattle.scope.specs.File.Line.{shapedAs, many, ok};
 ghost use Rattle.scope.specs.File.Kinds.{formKinds, rowIn};
 ghost use Rattle.scope.specs.File.Refusals.{rowRefusal};
@@ -36,7 +37,7 @@ fn form_line(value: &[u8], principals: u16, atoms: u16, formula: u16) -> RowLine
 }
 
 fn read_forms(text: &[u8], principals: u16, atoms: u16, formulas: u16, forms: &mut [u16]) -> Section
-    requires { ⌜ (formulas ≤ 1024) × (3072 ≤ length (now forms)) × (now forms ≡ replicate (length (now forms)) 0) ⌝ }
+    requires { ⌜ (formulas ≤ mostFormulas) × (3 * mostFormulas ≤ length (now forms)) × (now forms ≡ replicate (length (now forms)) 0) ⌝ }
     ensures { λ r. ⌜ r ≡ sectionOf (length (now (text .entry))) (many (formItem principals atoms) formulas [] (now (text .entry))) ⌝ }
     ensures { λ r. ⌜ ((rows : List FormRow) (rest : List ℕ) → many (formItem principals atoms) formulas [] (now (text .entry)) ≡ ok rows rest → now (forms .exit) ≡ table formEntry (length (now (forms .entry))) rows) ⌝ }
 {
@@ -46,7 +47,7 @@ fn read_forms(text: &[u8], principals: u16, atoms: u16, formulas: u16, forms: &m
         let value = lines::value_of(rest, b"form=");
         let got = form_line(value, principals, atoms, i);
         let RowLine::Row(kind, left, right) = got else {
-            let place = 5 + i as u32;
+            let place = common::form_at(i);
             return Section::Refused(crate::row_refused(got, place));
         };
         let at = 3 * (i as usize);
@@ -65,10 +66,10 @@ fn read_forms(text: &[u8], principals: u16, atoms: u16, formulas: u16, forms: &m
 }
 
 pub(crate) fn read_formulas(text: &[u8], forms: &mut [u16]) -> Head
-    requires { ⌜ (3072 ≤ length (now forms)) × (now forms ≡ replicate (length (now forms)) 0) ⌝ }
+    requires { ⌜ (3 * mostFormulas ≤ length (now forms)) × (now forms ≡ replicate (length (now forms)) 0) ⌝ }
     ensures { λ r. ⌜ r ≡ formulasOf (length (now (text .entry))) (formulasPart (now (text .entry))) ⌝ }
     ensures { λ r. ⌜ ((f : Formulas) (rest : List ℕ) → formulasPart (now (text .entry)) ≡ ok f rest → now (forms .exit) ≡ table formEntry (length (now (forms .entry))) (f .forms)) ⌝ }
-    ensures { λ r. ⌜ formulaCount r ≤ 1024 ⌝ }
+    ensures { λ r. ⌜ formulaCount r ≤ mostFormulas ⌝ }
 {
     let head = crate::first_lines::read_head(text);
     let Head::Read(principals, atoms, formulas, at) = head else {

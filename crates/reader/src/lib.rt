@@ -1,14 +1,15 @@
 // Reads a request file into lent tables of 16-bit numbers: 3 a formula, 1 a policy line, 2 a step.
 ghost use mathlib.Core.Path.{_≡_};
-ghost use Prim.Native.Nat.{_≤_};
+ghost use Prim.Native.Nat.{_*_, _≤_};
 ghost use lib.ListN.{length, replicate};
+ghost use Rattle.scope.specs.Limits.{mostFormulas, mostPolicyLines, mostSteps};
 ghost use Rattle.scope.specs.File.Request.{Request};
 ghost use Rattle.scope.specs.File.Reader.{read, readRequest};
-ghost use Rattle.scope.specs.Call.Tables.{table, formEntry, lineEntry, stepEntry, hasRoom};
+ghost use Rattle.scope.specs.Call.Tables.{table, formEntry, lineEntry, stepEntry};
 ghost use Rattle.scope.specs.Call.Calls.{reading, formTableAfter, lineTableAfter, stepTableAfter};
 ghost use Rattle.reader.specs.Answers.{refusalIs, numberRefusal, rowRefused, stepRefused, sectionRefused, headRefused, policyRefused, stepsRefused, readingOf};
-use counts::Counts;
-use counts::Refusal;
+use common::Counts;
+use common::Refusal;
 use steps::Step;
 
 mod first_lines;
@@ -149,24 +150,9 @@ fn zero_table(numbers: &mut [u16])
     }
 }
 
-fn has_room(forms: usize, policy: usize, steps: usize) -> bool
-    ensures { λ r. ⌜ r ≡ hasRoom forms policy steps ⌝ }
-{
-    if forms < 3072 {
-        return false;
-    }
-    if policy < 128 {
-        return false;
-    }
-    if steps < 4096 {
-        return false;
-    }
-    true
-}
-
 // The lines in order, then 6. The tables are zero and have room.
 fn read_parts(text: &[u8], forms: &mut [u16], policy: &mut [u16], steps: &mut [u16]) -> Reading
-    requires { ⌜ (3072 ≤ length (now forms)) × (now forms ≡ replicate (length (now forms)) 0) × (128 ≤ length (now policy)) × (now policy ≡ replicate (length (now policy)) 0) × (4096 ≤ length (now steps)) × (now steps ≡ replicate (length (now steps)) 0) ⌝ }
+    requires { ⌜ (3 * mostFormulas ≤ length (now forms)) × (now forms ≡ replicate (length (now forms)) 0) × (mostPolicyLines ≤ length (now policy)) × (now policy ≡ replicate (length (now policy)) 0) × (2 * mostSteps ≤ length (now steps)) × (now steps ≡ replicate (length (now steps)) 0) ⌝ }
     ensures { λ r. ⌜ r ≡ readingOf (readRequest (now (text .entry))) ⌝ }
     ensures { λ r. ⌜ ((q : Request) → readRequest (now (text .entry)) ≡ read q → now (forms .exit) ≡ table formEntry (length (now (forms .entry))) (q .forms)) ⌝ }
     ensures { λ r. ⌜ ((q : Request) → readRequest (now (text .entry)) ≡ read q → now (policy .exit) ≡ table lineEntry (length (now (policy .entry))) (q .lines)) ⌝ }
@@ -187,7 +173,7 @@ fn read_parts(text: &[u8], forms: &mut [u16], policy: &mut [u16], steps: &mut [u
         return Reading::Refused(steps_refused(last));
     };
     if end < third.len() {
-        let place = 8 + formulas as u32 + clauses as u32 + count as u32;
+        let place = common::end_at(formulas, clauses, count);
         return Reading::Refused(Refusal { number: 6, place });
     }
     Reading::Read(Counts {
@@ -215,14 +201,14 @@ pub fn read_request(
     zero_table(forms);
     zero_table(policy);
     zero_table(steps);
-    let room = has_room(forms.len(), policy.len(), steps.len());
+    let room = common::has_room(forms.len(), policy.len(), steps.len());
     if !room {
         return Reading::Refused(Refusal {
             number: 13,
             place: 0,
         });
     }
-    if 65536 < text.len() {
+    if common::MOST_BYTES < text.len() {
         return Reading::Refused(Refusal {
             number: 1,
             place: 0,

@@ -6,7 +6,8 @@ use lines::Number;
 ghost use mathlib.Core.Path.{_≡_};
 ghost use Prim.Native.Nat.{ℕ, _≤_};
 ghost use mathlib.Core.List.{List, []};
-ghost use lib.ListN.{length, getD, replicate};
+ghost use lib.ListN.{length, replicate};
+ghost use Rattle.scope.specs.Limits.{mostFormulas, mostPolicyLines};
 ghost use Rattle.scope.specs.File.Bytes.{bytes};
 ghost use Rattle.scope.specs.File.Number.{number};
 ghost use Rattle.scope.specs.File.Line.{shapedAs, many, ok};
@@ -31,13 +32,6 @@ fn formula_line(value: &[u8], formulas: u16) -> NumberLine
     NumberLine::Number(n as u16)
 }
 
-fn class_in(classes: &[u8], formula: u16) -> u8
-    ensures { λ r. ⌜ r ≡ getD (now (classes .entry)) formula 0 ⌝ }
-{
-    let at = formula as usize;
-    if at < classes.len() { classes[at] } else { 0 }
-}
-
 // The value of a `clause=` line.
 fn clause_line(value: &[u8], formulas: u16, classes: &[u8]) -> NumberLine
     ensures { λ r. ⌜ r ≡ numberLineOf (shapedAs (classRefusal policyIn (now (classes .entry)) formulas) (number (now (value .entry)))) ⌝ }
@@ -46,7 +40,7 @@ fn clause_line(value: &[u8], formulas: u16, classes: &[u8]) -> NumberLine
     let NumberLine::Number(f) = got else {
         return got;
     };
-    let allowed = classes::is_policy(class_in(classes, f));
+    let allowed = classes::is_policy(common::byte_at(classes, f as usize));
     if allowed {
         return NumberLine::Number(f);
     }
@@ -61,7 +55,7 @@ fn goal_line(text: &[u8], formulas: u16, classes: &[u8]) -> NumberLine
     let NumberLine::Number(f) = got else {
         return got;
     };
-    let allowed = classes::is_goal(class_in(classes, f));
+    let allowed = classes::is_goal(common::byte_at(classes, f as usize));
     if allowed {
         return NumberLine::Number(f);
     }
@@ -75,7 +69,7 @@ fn read_clauses(
     clauses: u16,
     policy: &mut [u16],
 ) -> Section
-    requires { ⌜ (clauses ≤ 128) × (128 ≤ length (now policy)) × (now policy ≡ replicate (length (now policy)) 0) ⌝ }
+    requires { ⌜ (clauses ≤ mostPolicyLines) × (mostPolicyLines ≤ length (now policy)) × (now policy ≡ replicate (length (now policy)) 0) ⌝ }
     ensures { λ r. ⌜ r ≡ sectionOf (length (now (text .entry))) (many (classedItem (now (classes .entry)) formulas) clauses [] (now (text .entry))) ⌝ }
     ensures { λ r. ⌜ ((rows : List ℕ) (rest : List ℕ) → many (classedItem (now (classes .entry)) formulas) clauses [] (now (text .entry)) ≡ ok rows rest → now (policy .exit) ≡ table lineEntry (length (now (policy .entry))) rows) ⌝ }
 {
@@ -85,7 +79,7 @@ fn read_clauses(
         let value = lines::value_of(rest, b"clause=");
         let got = clause_line(value, formulas, classes);
         let NumberLine::Number(f) = got else {
-            let place = 6 + formulas as u32 + i as u32;
+            let place = common::clause_at(formulas, i);
             return Section::Refused(crate::number_refused(got, place));
         };
         let at = i as usize;
@@ -100,13 +94,13 @@ fn read_clauses(
 }
 
 pub(crate) fn read_policy(text: &[u8], formulas: u16, forms: &[u16], policy: &mut [u16]) -> Policy
-    requires { ⌜ (formulas ≤ 1024) × (128 ≤ length (now policy)) × (now policy ≡ replicate (length (now policy)) 0) ⌝ }
+    requires { ⌜ (formulas ≤ mostFormulas) × (mostPolicyLines ≤ length (now policy)) × (now policy ≡ replicate (length (now policy)) 0) ⌝ }
     ensures { λ r. ⌜ r ≡ policySection (length (now (text .entry))) (policyPart (unpack formEntry formulas (now (forms .entry))) (now (text .entry))) ⌝ }
     ensures { λ r. ⌜ ((p : PolicyRead) (rest : List ℕ) → policyPart (unpack formEntry formulas (now (forms .entry))) (now (text .entry)) ≡ ok p rest → now (policy .exit) ≡ table lineEntry (length (now (policy .entry))) (p .lines)) ⌝ }
 {
-    let count = crate::first_lines::count_line(text, b"clauses=", 0, 128);
+    let count = crate::first_lines::count_line(text, b"clauses=", 0, common::MOST_POLICY_LINES);
     let NumberLine::Number(clauses) = count else {
-        let place = 5 + formulas as u32;
+        let place = common::clauses_at(formulas);
         return Policy::Refused(crate::number_refused(count, place));
     };
     let second = lines::rest_of(text);
@@ -118,7 +112,7 @@ pub(crate) fn read_policy(text: &[u8], formulas: u16, forms: &[u16], policy: &mu
     let third = &second[at..];
     let last = goal_line(third, formulas, &classes);
     let NumberLine::Number(goal) = last else {
-        let place = 6 + formulas as u32 + clauses as u32;
+        let place = common::goal_at(formulas, clauses);
         return Policy::Refused(crate::number_refused(last, place));
     };
     let rest = lines::rest_of(third);

@@ -5,9 +5,10 @@ use crate::StepLine;
 use crate::Steps;
 use lines::Row;
 ghost use mathlib.Core.Path.{_≡_};
-ghost use Prim.Native.Nat.{ℕ, _≤_};
+ghost use Prim.Native.Nat.{ℕ, _*_, _≤_};
 ghost use mathlib.Core.List.{List, []};
 ghost use lib.ListN.{length, replicate};
+ghost use Rattle.scope.specs.Limits.{mostSteps};
 ghost use Rattle.scope.specs.File.Line.{shapedAs, many, ok};
 ghost use Rattle.scope.specs.File.Kinds.{stepKinds, rowIn};
 ghost use Rattle.scope.specs.File.Refusals.{stepRefusal};
@@ -36,7 +37,7 @@ fn step_line(value: &[u8]) -> StepLine
 }
 
 fn read_steps(text: &[u8], formulas: u16, clauses: u16, count: u16, steps: &mut [u16]) -> Section
-    requires { ⌜ (count ≤ 2048) × (4096 ≤ length (now steps)) × (now steps ≡ replicate (length (now steps)) 0) ⌝ }
+    requires { ⌜ (count ≤ mostSteps) × (2 * mostSteps ≤ length (now steps)) × (now steps ≡ replicate (length (now steps)) 0) ⌝ }
     ensures { λ r. ⌜ r ≡ sectionOf (length (now (text .entry))) (many (stepItem formulas clauses) count [] (now (text .entry))) ⌝ }
     ensures { λ r. ⌜ ((rows : List StepRow) (rest : List ℕ) → many (stepItem formulas clauses) count [] (now (text .entry)) ≡ ok rows rest → now (steps .exit) ≡ table stepEntry (length (now (steps .entry))) rows) ⌝ }
 {
@@ -46,7 +47,7 @@ fn read_steps(text: &[u8], formulas: u16, clauses: u16, count: u16, steps: &mut 
         let value = lines::value_of(rest, b"step=");
         let got = step_line(value);
         let StepLine::Step(step) = got else {
-            let place = 8 + formulas as u32 + clauses as u32 + i as u32;
+            let place = common::step_at(formulas, clauses, i);
             return Section::Refused(crate::step_refused(got, place));
         };
         let pair = steps::pair_of(step);
@@ -64,13 +65,13 @@ fn read_steps(text: &[u8], formulas: u16, clauses: u16, count: u16, steps: &mut 
 }
 
 pub(crate) fn read_proof(text: &[u8], formulas: u16, clauses: u16, steps: &mut [u16]) -> Steps
-    requires { ⌜ (4096 ≤ length (now steps)) × (now steps ≡ replicate (length (now steps)) 0) ⌝ }
+    requires { ⌜ (2 * mostSteps ≤ length (now steps)) × (now steps ≡ replicate (length (now steps)) 0) ⌝ }
     ensures { λ r. ⌜ r ≡ stepSection (length (now (text .entry))) (stepsPart formulas clauses (now (text .entry))) ⌝ }
     ensures { λ r. ⌜ ((rows : List StepRow) (rest : List ℕ) → stepsPart formulas clauses (now (text .entry)) ≡ ok rows rest → now (steps .exit) ≡ table stepEntry (length (now (steps .entry))) rows) ⌝ }
 {
-    let line = crate::first_lines::count_line(text, b"steps=", 1, 2048);
+    let line = crate::first_lines::count_line(text, b"steps=", 1, common::MOST_STEPS);
     let NumberLine::Number(count) = line else {
-        let place = 7 + formulas as u32 + clauses as u32;
+        let place = common::steps_at(formulas, clauses);
         return Steps::Refused(crate::number_refused(line, place));
     };
     let rest = lines::rest_of(text);

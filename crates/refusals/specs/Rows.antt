@@ -7,6 +7,7 @@ use mathlib.Core.List.{List}
 use lib.Dec.{ltb, leb, eqb}
 use lib.ListN.{getD}
 use borrow.Author.Tests.{le-ltb, ltb-true, ltb-false, leb-true, eqb-true, eqb-false}
+use Rattle.scope.specs.Limits.{mostStepNumber}
 use Rattle.scope.specs.Logic.Form.{both}
 use Rattle.scope.specs.Tools.Tests.{both-true, both-yes}
 use Rattle.scope.specs.File.Request.{Row}
@@ -146,11 +147,11 @@ module _ (l r : ℕ) where
   abbrev stepRefused : ℕ → ℕ
   stepRefused k = stepRefusal (row k l r)
 
-  pub step-7 : stepRefused 7 ≡ demands (eqb r 0) (leb l 65535) true
+  pub step-7 : stepRefused 7 ≡ demands (eqb r 0) (leb l mostStepNumber) true
   unfolding stepRefusal rowRefusal stepKinds kindIn pass restZero inRange isEarlier demand both
   step-7 = simp both-yes
 
-  pub step-10 : stepRefused 10 ≡ demands (eqb r 0) (leb l 65535) true
+  pub step-10 : stepRefused 10 ≡ demands (eqb r 0) (leb l mostStepNumber) true
   unfolding stepRefusal rowRefusal stepKinds kindIn pass restZero inRange isEarlier demand both
   step-10 = simp both-yes
 
@@ -190,11 +191,11 @@ module _ (l r : ℕ) where
   pub step-small : (k : ℕ) → stepRefused k ≡ 0 → SmallStep k
   step-small k e = go (ltb k 18) (eqb k 7) (eqb k 10) refl refl refl
     where
-      carried : (j : ℕ) → j < 18 → demands (eqb r 0) (leb l 65535) true ≡ 0 → ((j ≡ 7 → ⊥) → (j ≡ 10 → ⊥) → l ≡ 0) → SmallStep j
+      carried : (j : ℕ) → j < 18 → demands (eqb r 0) (leb l mostStepNumber) true ≡ 0 → ((j ≡ 7 → ⊥) → (j ≡ 10 → ⊥) → l ≡ 0) → SmallStep j
       carried j h f none =
-          let m = demands-met (eqb r 0) (leb l 65535) true f in
+          let m = demands-met (eqb r 0) (leb l mostStepNumber) true f in
           let x = eqb-true r 0 (m .zeros) in
-          let y = leb-true l 65535 (m .within) in
+          let y = leb-true l mostStepNumber (m .within) in
           record { kinds = h; lefts = omega arith; rights = x; unused = none }
 
       go : (a b c : Bool) → ltb k 18 ≡ a → eqb k 7 ≡ b → eqb k 10 ≡ c → SmallStep k

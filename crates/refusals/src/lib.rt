@@ -58,8 +58,8 @@ pub fn step_refusal(kind: usize, left: u32, right: u32) -> u16
         return 3;
     }
     match kind {
-        7 => refusal_of(right == 0, left <= 65535, true),
-        10 => refusal_of(right == 0, left <= 65535, true),
+        7 => refusal_of(right == 0, left <= common::MOST_STEP_NUMBER, true),
+        10 => refusal_of(right == 0, left <= common::MOST_STEP_NUMBER, true),
         _ => refusal_of(both_of(left == 0, right == 0), true, true),
     }
 }

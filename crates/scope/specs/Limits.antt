@@ -40,7 +40,8 @@ abbrev pub mostStepNumber : ℕ
 mostStepNumber = 65535
 
 -- The file has, in this order: version, principals, atoms, formulas and that many form lines, clauses and that many clause lines,
--- goal, steps and that many step lines. Formulas and policy lines count from 0, steps from 1.
+-- goal, steps and that many step lines. Formulas and policy lines count from 0, steps from 1. All but the first are told from the line
+-- of `principals=`.
 abbrev pub versionAt : ℕ
 versionAt = 1
 
@@ -48,28 +49,28 @@ abbrev pub principalsAt : ℕ
 principalsAt = 2
 
 abbrev pub atomsAt : ℕ
-atomsAt = 3
+atomsAt = principalsAt + 1
 
 abbrev pub formulasAt : ℕ
-formulasAt = 4
+formulasAt = principalsAt + 2
 
 abbrev pub formAt : ℕ → ℕ
-formAt i = 5 + i
+formAt i = principalsAt + 3 + i
 
 abbrev pub clausesAt : ℕ → ℕ
-clausesAt formulas = 5 + formulas
+clausesAt formulas = principalsAt + 3 + formulas
 
 abbrev pub clauseAt : ℕ → ℕ → ℕ
-clauseAt formulas j = 6 + formulas + j
+clauseAt formulas j = principalsAt + 4 + formulas + j
 
 abbrev pub goalAt : ℕ → ℕ → ℕ
-goalAt formulas clauses = 6 + formulas + clauses
+goalAt formulas clauses = principalsAt + 4 + formulas + clauses
 
 abbrev pub stepsAt : ℕ → ℕ → ℕ
-stepsAt formulas clauses = 7 + formulas + clauses
+stepsAt formulas clauses = principalsAt + 5 + formulas + clauses
 
 abbrev pub stepAt : ℕ → ℕ → ℕ → ℕ
-stepAt formulas clauses s = 7 + formulas + clauses + s
+stepAt formulas clauses s = principalsAt + 5 + formulas + clauses + s
 
 abbrev pub endAt : ℕ → ℕ → ℕ → ℕ
-endAt formulas clauses steps = 8 + formulas + clauses + steps
+endAt formulas clauses steps = principalsAt + 6 + formulas + clauses + steps

@@ -1,6 +1,6 @@
 // The tables of P1 with one thing changed, lent to writer and judge.
 use crate::tried;
-use counts::Counts;
+use common::Counts;
 
 // What is changed: three entries of a formula, one entry of a table, or two formulas added of which
 // the last is no goal, since it goes from `says` of an `sf`.

@@ -3,7 +3,7 @@
 mod lent;
 mod tried;
 
-use counts::Counts;
+use common::Counts;
 use lent::Edit;
 
 // The counts of P1, lines 2 to 4, 10, 14 and 15 of its text.

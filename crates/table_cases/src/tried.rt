@@ -1,5 +1,5 @@
 // What writer and judge answer for lent tables, printed; the output is looked at too.
-use counts::Counts;
+use common::Counts;
 use libc::STDOUT_FILENO;
 use reader::Reading;
 

@@ -4,7 +4,7 @@ use mathlib.Core.List.{List}
 use Rattle.scope.specs.Call.Answer.{Answer, answer}
 use Rattle.scope.specs.Call.Checked.{firstMet}
 use Rattle.scope.specs.Call.Tables.{Lent}
-use Rattle.counts.specs.declared.Counts.{Counts}
+use Rattle.common.specs.declared.Counts.{Counts}
 use Rattle.tables.specs.declared.Checked.{Checked}
 use Rattle.tables.specs.declared.Checked.the-variants.{Fine, Refused}
 

@@ -9,7 +9,7 @@ use lib.Seq.{take-suc, split-at, take-length}
 use Rattle.scope.specs.Tools.Tests.{never}
 use Rattle.scope.specs.Call.Answer.{Answer, answer}
 use Rattle.scope.specs.Call.Checked.{firstMet}
-use Rattle.counts.specs.declared.Refusal.{Refusal}
+use Rattle.common.specs.declared.Refusal.{Refusal}
 use Rattle.tables.specs.declared.Checked.{Checked}
 use Rattle.tables.specs.declared.Checked.the-variants.{Fine, Refused}
 use Rattle.tables.specs.Met.{answerIn, checkedOf, metIn}

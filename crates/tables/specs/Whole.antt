@@ -17,7 +17,7 @@ use Rattle.scope.specs.Call.Tables.{Lent, hasRoom, unpack, formEntry, lineEntry
 use Rattle.classes.specs.Class.{goalIn, policyIn, classTable}
 use Rattle.classes.specs.Rows.{unpack-length}
 use Rattle.classes.specs.Laws.{goal-at, policy-at}
-use Rattle.counts.specs.declared.Refusal.{Refusal}
+use Rattle.common.specs.declared.Refusal.{Refusal}
 use Rattle.tables.specs.Met.{answerIn, checkedOf, metIn}
 use Rattle.tables.specs.MetLaws.{first-answer, met-stop, met-go, met-front, met-back, met-one, fine-none}
 use Rattle.tables.specs.declared.Checked.{Checked}

@@ -11,8 +11,8 @@ ghost use Rattle.tables.specs.Met.{checkedOf, metIn, lentWith};
 ghost use Rattle.tables.specs.Answers.{countAnswers, formAnswer, formAnswers, policyAnswers, stepAnswers};
 ghost use Rattle.refusals.specs.Rows.{row};
 ghost use Rattle.tables.specs.Whole.{formPart, linePart, stepPart};
-use counts::Counts;
-use counts::Refusal;
+use common::Counts;
+use common::Refusal;
 
 mod rows;
 
@@ -33,30 +33,30 @@ fn answer_at(number: u16, place: u32) -> Checked
 fn room_refusal(forms: usize, lines: usize, steps: usize) -> u16
     ensures { λ r. ⌜ r ≡ demand (hasRoom forms lines steps) 13 0 ⌝ }
 {
-    if forms < 3072 {
-        return 13;
-    }
-    if lines < 128 {
-        return 13;
-    }
-    if steps < 4096 {
-        return 13;
-    }
-    0
+    rows::demand_of(common::has_room(forms, lines, steps), 13, 0)
 }
 
 fn check_counts(principals: u16, atoms: u16, formulas: u16) -> Checked
     ensures { λ r. ⌜ r ≡ metIn (countAnswers principals atoms formulas) ⌝ }
 {
-    let first = answer_at(rows::count_refusal(1, 16, principals), 2);
+    let first = answer_at(
+        rows::count_refusal(1, common::MOST_PRINCIPALS, principals),
+        common::principals_at(),
+    );
     let Checked::Fine = first else {
         return first;
     };
-    let second = answer_at(rows::count_refusal(1, 256, atoms), 3);
+    let second = answer_at(
+        rows::count_refusal(1, common::MOST_ATOMS, atoms),
+        common::atoms_at(),
+    );
     let Checked::Fine = second else {
         return second;
     };
-    answer_at(rows::count_refusal(1, 1024, formulas), 4)
+    answer_at(
+        rows::count_refusal(1, common::MOST_FORMULAS, formulas),
+        common::formulas_at(),
+    )
 }
 
 // Formula number i by its three numbers.
@@ -71,8 +71,7 @@ fn check_form(principals: u16, atoms: u16, i: u16, kind: u16, left: u16, right: 
         atoms,
         i,
     );
-    let place = 5 + i as u32;
-    answer_at(number, place)
+    answer_at(number, common::form_at(i))
 }
 
 fn check_forms(principals: u16, atoms: u16, count: u16, forms: &[u16]) -> Checked
@@ -81,9 +80,9 @@ fn check_forms(principals: u16, atoms: u16, count: u16, forms: &[u16]) -> Checke
     let mut i: u16 = 0;
     while i < count {
         let at = 3 * (i as usize);
-        let kind = classes::entry_at(forms, at);
-        let left = classes::entry_at(forms, at + 1);
-        let right = classes::entry_at(forms, at + 2);
+        let kind = common::entry_at(forms, at);
+        let left = common::entry_at(forms, at + 1);
+        let right = common::entry_at(forms, at + 2);
         let form = check_form(principals, atoms, i, kind, left, right);
         let Checked::Fine = form else {
             return form;
@@ -98,9 +97,8 @@ fn check_lines(classes: &[u8], formulas: u16, count: u16, lines: &[u16]) -> Chec
 {
     let mut i: u16 = 0;
     while i < count {
-        let number = rows::line_refusal(classes, formulas, classes::entry_at(lines, i as usize));
-        let place = 6 + formulas as u32 + i as u32;
-        let line = answer_at(number, place);
+        let number = rows::line_refusal(classes, formulas, common::entry_at(lines, i as usize));
+        let line = answer_at(number, common::clause_at(formulas, i));
         let Checked::Fine = line else {
             return line;
         };
@@ -115,11 +113,10 @@ fn check_steps(formulas: u16, lines: u16, count: u16, steps: &[u16]) -> Checked
     let mut i: u16 = 0;
     while i < count {
         let at = 2 * (i as usize);
-        let kind = classes::entry_at(steps, at);
-        let carried = classes::entry_at(steps, at + 1);
+        let kind = common::entry_at(steps, at);
+        let carried = common::entry_at(steps, at + 1);
         let number = refusals::step_refusal(kind as usize, carried as u32, 0);
-        let place = 8 + formulas as u32 + lines as u32 + i as u32;
-        let step = answer_at(number, place);
+        let step = answer_at(number, common::step_at(formulas, lines, i));
         let Checked::Fine = step else {
             return step;
         };
@@ -167,8 +164,8 @@ fn check_formulas(counts: Counts, forms: &[u16]) -> Checked
 fn check_policy(counts: Counts, classes: &[u8], lines: &[u16]) -> Checked
     ensures { λ r. ⌜ r ≡ metIn (linePart (lentWith counts [] (now (lines .entry)) []) (now (classes .entry))) ⌝ }
 {
-    let place = 5 + counts.formulas as u32;
-    let count = answer_at(rows::count_refusal(0, 128, counts.lines), place);
+    let number = rows::count_refusal(0, common::MOST_POLICY_LINES, counts.lines);
+    let count = answer_at(number, common::clauses_at(counts.formulas));
     let Checked::Fine = count else {
         return count;
     };
@@ -179,15 +176,13 @@ fn check_policy(counts: Counts, classes: &[u8], lines: &[u16]) -> Checked
 fn check_proof(counts: Counts, classes: &[u8], steps: &[u16]) -> Checked
     ensures { λ r. ⌜ r ≡ metIn (stepPart (lentWith counts [] [] (now (steps .entry))) (now (classes .entry))) ⌝ }
 {
-    let place = 6 + counts.formulas as u32 + counts.lines as u32;
-    let goal = answer_at(
-        rows::goal_refusal(classes, counts.formulas, counts.goal),
-        place,
-    );
+    let number = rows::goal_refusal(classes, counts.formulas, counts.goal);
+    let goal = answer_at(number, common::goal_at(counts.formulas, counts.lines));
     let Checked::Fine = goal else {
         return goal;
     };
-    let count = answer_at(rows::count_refusal(1, 2048, counts.steps), place + 1);
+    let few = rows::count_refusal(1, common::MOST_STEPS, counts.steps);
+    let count = answer_at(few, common::steps_at(counts.formulas, counts.lines));
     let Checked::Fine = count else {
         return count;
     };

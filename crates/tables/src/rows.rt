@@ -1,6 +1,5 @@
 // The refusals of a count and of a formula that a line names: 0 where there is none.
 ghost use mathlib.Core.Path.{_≡_};
-ghost use lib.ListN.{getD};
 ghost use Rattle.scope.specs.File.Refusals.{demand, countRefusal};
 ghost use Rattle.classes.specs.Class.{goalIn, policyIn};
 ghost use Rattle.refusals.specs.Rows.{classRefusal};
@@ -23,22 +22,16 @@ pub(crate) fn count_refusal(least: u16, most: u16, n: u16) -> u16
     0
 }
 
-fn byte_at(classes: &[u8], at: usize) -> u8
-    ensures { λ r. ⌜ r ≡ getD (now (classes .entry)) at 0 ⌝ }
-{
-    if at < classes.len() { classes[at] } else { 0 }
-}
-
 pub(crate) fn line_refusal(classes: &[u8], formulas: u16, f: u16) -> u16
     ensures { λ r. ⌜ r ≡ classRefusal policyIn (now (classes .entry)) formulas f ⌝ }
 {
-    let class = byte_at(classes, f as usize);
+    let class = common::byte_at(classes, f as usize);
     demand_of(f < formulas, 3, demand_of(classes::is_policy(class), 5, 0))
 }
 
 pub(crate) fn goal_refusal(classes: &[u8], formulas: u16, f: u16) -> u16
     ensures { λ r. ⌜ r ≡ classRefusal goalIn (now (classes .entry)) formulas f ⌝ }
 {
-    let class = byte_at(classes, f as usize);
+    let class = common::byte_at(classes, f as usize);
     demand_of(f < formulas, 3, demand_of(classes::is_goal(class), 5, 0))
 }

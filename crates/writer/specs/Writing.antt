@@ -11,7 +11,7 @@ use Rattle.scope.specs.File.Text.{requestText}
 use Rattle.scope.specs.Call.Tables.{Lent, requestOf, padded}
 use Rattle.scope.specs.Call.Checked.{checked}
 use Rattle.scope.specs.Call.Calls.{Written, written, unwritten, writtenIf, writing, writtenAnswer, textIn, outputAfter}
-use Rattle.counts.specs.declared.Refusal.{Refusal}
+use Rattle.common.specs.declared.Refusal.{Refusal}
 use Rattle.tables.specs.declared.Checked.{Checked}
 use Rattle.tables.specs.declared.Checked.the-variants.{Fine, Refused}
 use Rattle.tables.specs.Met.{checkedOf}

@@ -1,5 +1,5 @@
 // The writer: the text of lent tables, or the refusal of what no text says.
-use counts::Counts;
+use common::Counts;
 use sections::put_request;
 use tables::Checked;
 

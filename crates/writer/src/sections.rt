@@ -2,7 +2,7 @@
 use crate::put_lines::put_count;
 use crate::put_lines::put_form;
 use crate::put_lines::put_step;
-use counts::Counts;
+use common::Counts;
 ghost use Prim.Native.Nat.{_<_, _+_, _*_};
 ghost use Rattle.scope.specs.File.Line.{lineText, manyText};
 ghost use Rattle.scope.specs.File.Text.{formLine, clauseLine, stepLine, requestText};
@@ -19,9 +19,9 @@ fn put_forms(out: &mut [u8], at: usize, count: u16, forms: &[u16]) -> usize
     let mut i: u16 = 0;
     while i < count {
         let first = 3 * (i as usize);
-        let kind = classes::entry_at(forms, first);
-        let left = classes::entry_at(forms, first + 1);
-        let right = classes::entry_at(forms, first + 2);
+        let kind = common::entry_at(forms, first);
+        let left = common::entry_at(forms, first + 1);
+        let right = common::entry_at(forms, first + 2);
         end = put_form(out, end, kind, left, right);
         i += 1;
     }
@@ -42,7 +42,7 @@ fn put_lines(out: &mut [u8], at: usize, count: u16, lines: &[u16]) -> usize
     let mut end = at;
     let mut i: u16 = 0;
     while i < count {
-        let formula = classes::entry_at(lines, i as usize);
+        let formula = common::entry_at(lines, i as usize);
         end = put_clause(out, end, formula);
         i += 1;
     }
@@ -57,8 +57,8 @@ fn put_steps(out: &mut [u8], at: usize, count: u16, steps: &[u16]) -> usize
     let mut i: u16 = 0;
     while i < count {
         let first = 2 * (i as usize);
-        let kind = classes::entry_at(steps, first);
-        let number = classes::entry_at(steps, first + 1);
+        let kind = common::entry_at(steps, first);
+        let number = common::entry_at(steps, first + 1);
         end = put_step(out, end, kind, number);
         i += 1;
     }

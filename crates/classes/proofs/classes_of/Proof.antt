@@ -1,4 +1,5 @@
 -- `classes::classes_of` meets its contract: in turn i the entries below i are the classes of the first i formulas, and row i adds its own.
+use Rattle.scope.specs.Limits.{mostFormulas}
 use borrow.Author.Needs.{needs}
 use native.Mathlib.Omega.{arith}
 use Prim.Native.Nat.{_-_, _≤_, _*_, _+_}
@@ -9,7 +10,7 @@ use Rattle.classes.proofs.classes_of.Statement.{statement}
 use Rattle.classes.proofs.classes_of.Tie as tie
 
 abbrev Inv-loop : tie.InvT-loop
-Inv-loop forms formulas count classes₀ i₀ classes i = (count ≤ 1024) × Filled forms count i classes
+Inv-loop forms formulas count classes₀ i₀ classes i = (count ≤ mostFormulas) × Filled forms count i classes
 
 abbrev μ-loop : tie.MeasureT-loop
 μ-loop forms formulas count classes₀ i₀ classes i = count - i

@@ -2,6 +2,7 @@
 use Prim.Native.Nat.{_+_, _≤_}
 use mathlib.Core.Path.{refl, ap, sym, subst, _∙_}
 use lib.ListN.{length}
+use Rattle.scope.specs.Limits.{mostFormulas, endAt}
 use Rattle.scope.specs.File.Reader.{readRequest}
 use Rattle.reader.specs.Answers.{refusalIs, formulaCount, headRefused, policyRefused, stepsRefused}
 use Rattle.reader.specs.Outcomes.{Formulas-kept, Policy-kept, Steps-kept, formulas-end, formulas-place, policy-end, policy-place, steps-end, bytes-after, all-read, refused-all}
@@ -82,7 +83,7 @@ part-second-end c = search needs
 
 read-policy-requires : tie.Need-read-policy-requires
 read-policy-requires c κs = (
-  subst (λ h. formulaCount h ≤ 1024) (c .before .before .before .before .first .given .1)
+  subst (λ h. formulaCount h ≤ mostFormulas) (c .before .before .before .before .first .given .1)
       (c .before .before .before .before .before .before .before .before .read-formulas .ensures .1 .1),
   c .before .before .before .before .before .before .before .before .before .before .before .before .before .before .pre .2,
   c .before .before .before .before .before .before .before .before .before .before .before .before .before .before .pre .3,
@@ -158,43 +159,25 @@ returns-3 c =
     (policy (c .before .before .before .before .before .before .before .before .before)) (c .before .enum-told3 .given .0 .0)
     (sym (c .before .before .before .before .before .read-proof .ensures .0) ∙ c .before .enum-told3 .given .1))
 
-cast-place : tie.Need-cast-place
-cast-place c = search needs
-
-add-place : tie.Need-add-place
-add-place c = search needs
-
-cast-place-2 : tie.Need-cast-place-2
-cast-place-2 c = search needs
-
-add-place-2 : tie.Need-add-place-2
-add-place-2 c = search needs
-
-cast-place-3 : tie.Need-cast-place-3
-cast-place-3 c = search needs
-
-add-place-3 : tie.Need-add-place-3
-add-place-3 c = search needs
-
 same-length-7 : tie.Need-same-length-7
 same-length-7 c =
-    c .before .before .before .before .before .before .before .before .before .before .before .before .before .before .before .before .before .before .before .before .before .before .before .read-formulas .kept .1 .0
+    c .before .before .before .before .before .before .before .before .before .before .before .before .before .before .before .before .before .before .before .before .before .before .before .before .read-formulas .kept .1 .0
 
 same-length-8 : tie.Need-same-length-8
 same-length-8 c =
-    c .before .before .before .before .before .before .before .before .before .before .before .before .before .before .read-policy .kept .1 .1 .1 .0
+    c .before .before .before .before .before .before .before .before .before .before .before .before .before .before .before .read-policy .kept .1 .1 .1 .0
 
 same-length-9 : tie.Need-same-length-9
-same-length-9 c = c .before .before .before .before .before .before .read-proof .kept .1 .1 .1 .0
+same-length-9 c = c .before .before .before .before .before .before .before .read-proof .kept .1 .1 .1 .0
 
 returns-4 : tie.Need-returns-4
 returns-4 c =
-    let x = refusalIs 6 (8 + c .before .before .before .before .before .before .before .before .before .before .before .before .before .before .before .before .before .before .before .first .given .0 .1 .1 .0 + c .before .before .before .before .before .before .before .before .before .before .middle .given .0 .0 + c .before .before .last .given .0 .0) in
+    let place = endAt (c .before .before .before .before .before .before .before .before .before .before .before .before .before .before .before .before .before .before .before .before .first .given .0 .1 .1 .0) (c .before .before .before .before .before .before .before .before .before .before .before .middle .given .0 .0) (c .before .before .before .last .given .0 .0) in
     refused-all (readRequest
-    (c .before .before .before .before .before .before .before .before .before .before .before .before .before .before .before .before .before .before .before .before .before .before .before .before .before .before .before .before .before .args .text .now)) x x refl
+    (c .before .before .before .before .before .before .before .before .before .before .before .before .before .before .before .before .before .before .before .before .before .before .before .before .before .before .before .before .before .before .args .text .now)) (refusalIs 6 place) (refusalIs 6 (c .end-at .result)) (ap (refusalIs 6) (c .end-at .ensures))
     (bytes-after (formulas
-    (c .before .before .before .before .before .before .before .before .before .before .before .before .before .before .before .before .before .before .before))
-    (policy (c .before .before .before .before .before .before .before .before .before .before)) (steps (c .before .before)) (c .if1 .taken))
+    (c .before .before .before .before .before .before .before .before .before .before .before .before .before .before .before .before .before .before .before .before))
+    (policy (c .before .before .before .before .before .before .before .before .before .before .before)) (steps (c .before .before .before)) (c .before .if1 .taken))
 
 same-length-10 : tie.Need-same-length-10
 same-length-10 c =
@@ -243,12 +226,7 @@ read-parts-spec =
     same-length-5
     same-length-6
     returns-3
-    cast-place
-    add-place
-    cast-place-2
-    add-place-2
-    cast-place-3
-    add-place-3
+    (λ c κs. search needs)
     same-length-7
     same-length-8
     same-length-9

@@ -4,7 +4,11 @@ use Rattle.tables.proofs.check_form.Statement.{statement}
 use Rattle.tables.proofs.check_form.Tie as tie
 
 returns : tie.Need-returns
-returns c = rw (c .before .form-refusal .ensures) at (c .answer-at .ensures)
+returns c = rw (c .before .before .form-refusal .ensures, c .before .form-at .ensures) at (c .answer-at .ensures)
 
 pub check-form-spec : {M : Type 1} → statement M
-check-form-spec = tie.close (tie.spec (λ c κs. search needs) (λ c. search needs) (λ c κs. search needs) returns)
+check-form-spec = tie.close (tie.spec
+    (λ c κs. search needs)
+    (λ c κs. search needs)
+    (λ c κs. search needs)
+    returns)

@@ -21,13 +21,13 @@ loop-holds c =
 
 turn :
     (c : tie.After-answer-at Inv-loop μ-loop)
-    → let a = c .before .before .before .before .before .before .before .args in
-    Turn (a .count) (policyAnswers (a .classes .now) (a .formulas) (unpack lineEntry (a .count) (a .lines .now))) (c .before .before .before .before .loop .i) (c .answer-at .result)
+    → let a = c .before .before .before .before .before .before .before .before .args in
+    Turn (a .count) (policyAnswers (a .classes .now) (a .formulas) (unpack lineEntry (a .count) (a .lines .now))) (c .before .before .before .before .before .loop .i) (c .answer-at .result)
 turn c =
-    let a = c .before .before .before .before .before .before .before .args in
-    let i = c .before .before .before .before .loop .i in
-    let more = c .before .before .before .loop-test .taken in
-    turn-of more (c .before .before .before .before .loop .inv) (line-at (a .classes .now) (a .formulas) (a .count) (a .lines .now) i more) (rw (c .before .before .entry-at .ensures) at (rw (c .before .line-refusal .ensures) at (c .answer-at .ensures)))
+    let a = c .before .before .before .before .before .before .before .before .args in
+    let i = c .before .before .before .before .before .loop .i in
+    let more = c .before .before .before .before .loop-test .taken in
+    turn-of more (c .before .before .before .before .before .loop .inv) (line-at (a .classes .now) (a .formulas) (a .count) (a .lines .now) i more) (rw (c .before .before .before .entry-at .ensures) at (rw (c .before .before .line-refusal .ensures, c .before .clause-at .ensures) at (c .answer-at .ensures)))
 
 returns : tie.Need-returns Inv-loop μ-loop
 returns c = turn-stop (turn (c .before .before)) (c .enum-told2 .given .1)
@@ -45,9 +45,7 @@ check-lines-spec =
     (λ c. search needs)
     (λ c κs. search needs)
     (λ c κs. search needs)
-    (λ c. search needs)
-    (λ c. search needs)
-    (λ c. search needs)
+    (λ c κs. search needs)
     (λ c κs. search needs)
     (λ c. search needs)
     (λ c. search needs)

@@ -24,14 +24,13 @@ loop-holds c =
 
 turn :
     (c : tie.After-answer-at Inv-loop μ-loop)
-    → let a = c .before .before .before .before .before .before .before .args in
-    Turn (a .count) (stepAnswers (a .formulas) (a .lines) (unpack stepEntry (a .count) (a .steps .now))) (c .before .before .before .before .before .loop .i) (c .answer-at .result)
+    → let a = c .before .before .before .before .before .before .before .before .args in
+    Turn (a .count) (stepAnswers (a .formulas) (a .lines) (unpack stepEntry (a .count) (a .steps .now))) (c .before .before .before .before .before .before .loop .i) (c .answer-at .result)
 turn c =
-    let a = c .before .before .before .before .before .before .before .args in
-    let i = c .before .before .before .before .before .loop .i in
-    let more = c .before .before .before .before .loop-test .taken in
-    let place : 8 + a .formulas + a .lines + i ≡ stepAt (a .formulas) (a .lines) (suc i) = omega arith in
-    turn-of more (c .before .before .before .before .before .loop .inv) (step-at (a .formulas) (a .lines) (a .count) (a .steps .now) i more) (rw (c .before .before .before .entry-at .ensures, c .before .before .entry-at2 .ensures, place) at (rw (c .before .step-refusal .ensures) at (c .answer-at .ensures)))
+    let a = c .before .before .before .before .before .before .before .before .args in
+    let i = c .before .before .before .before .before .before .loop .i in
+    let more = c .before .before .before .before .before .loop-test .taken in
+    turn-of more (c .before .before .before .before .before .before .loop .inv) (step-at (a .formulas) (a .lines) (a .count) (a .steps .now) i more) (rw (c .before .before .before .before .entry-at .ensures, c .before .before .before .entry-at2 .ensures) at (rw (c .before .before .step-refusal .ensures, c .before .step-at .ensures) at (c .answer-at .ensures)))
 
 returns : tie.Need-returns Inv-loop μ-loop
 returns c = turn-stop (turn (c .before .before)) (c .enum-told2 .given .1)
@@ -54,10 +53,7 @@ check-steps-spec =
     (λ c. search needs)
     (λ c. search needs)
     (λ c κs. search needs)
-    (λ c. search needs)
-    (λ c. search needs)
-    (λ c. search needs)
-    (λ c. search needs)
+    (λ c κs. search needs)
     (λ c κs. search needs)
     (λ c. search needs)
     (λ c. search needs)

@@ -1,7 +1,7 @@
 -- `reader::first_lines::read_head` meets its contract: each line is read from the rest behind the one before it, and the first refusal is the answer.
 use mathlib.Core.Path.{_≡_, ap, sym, _∙_}
 use lib.ListN.{length}
-use Rattle.scope.specs.Limits.{versionAt, principalsAt, atomsAt, formulasAt}
+use Rattle.scope.specs.Limits.{mostFormulas, versionAt, principalsAt, atomsAt, formulasAt}
 use Rattle.scope.specs.File.Refusals.{versionRefusal, principalsRefusal, atomsRefusal, formulasRefusal}
 use Rattle.reader.specs.Sections.{headPart}
 use Rattle.reader.specs.Answers.{refusalIs, numberRefusal}
@@ -32,13 +32,12 @@ number-refused-requires : tie.Need-number-refused-requires
 number-refused-requires c κs = search needs
 
 returns : tie.Need-returns
-returns c = let t = c .before .before .before .before .before .before .args .text .now in
-    let k = c .before .enum-told2 .given .0 .0 in
+returns c = let t = c .before .before .before .before .before .before .before .args .text .now in
+    let k = c .before .before .enum-told2 .given .0 .0 in
     let b = number-bad "version=" versionRefusal versionAt t k
-    (sym (c .before .before .before .count-line .ensures) ∙ c .before .enum-told2 .given .1) in
-    let r : c .number-refused .result ≡ refusalIs k 1 = c .number-refused .ensures ∙ ap (λ l. refusalIs (numberRefusal l) 1)
-    (c .before .enum-told2 .given .1) in
-    (ap Head.Refused r ∙ head-refused (length t) (headPart t) k 1 (head-1 t k 1 b), omega arith)
+    (sym (c .before .before .before .before .count-line .ensures) ∙ c .before .before .enum-told2 .given .1) in
+    let r : c .number-refused .result ≡ refusalIs k versionAt = c .number-refused .ensures ∙ (λ j. refusalIs (numberRefusal (c .before .before .enum-told2 .given .1 j)) (c .before .version-at .ensures j)) in
+    (ap Head.Refused r ∙ head-refused (length t) (headPart t) k versionAt (head-1 t k versionAt b), omega arith)
 
 rest-of-requires : tie.Need-rest-of-requires
 rest-of-requires c κs = search needs
@@ -59,18 +58,17 @@ number-refused-requires-2 : tie.Need-number-refused-requires-2
 number-refused-requires-2 c κs = search needs
 
 returns-2 : tie.Need-returns-2
-returns-2 c = let t = c .before .before .before .before .before .before .before .before .before .before .before .args .text .now in
-    let s1 = c .before .before .before .before .before .rest-of .result .now in
-    let v = c .before .before .before .before .before .before .enum-told .given .0 .0 in
-    let e1 = number-ok "version=" versionRefusal versionAt t s1 v (c .before .before .before .before .before .rest-of .ensures)
-    (sym (c .before .before .before .before .before .before .before .before .count-line .ensures) ∙
-    c .before .before .before .before .before .before .enum-told .given .1) in
-    let k = c .before .enum-told3 .given .0 .0 in
+returns-2 c = let t = c .before .before .before .before .before .before .before .before .before .before .before .before .args .text .now in
+    let s1 = c .before .before .before .before .before .before .rest-of .result .now in
+    let v = c .before .before .before .before .before .before .before .enum-told .given .0 .0 in
+    let e1 = number-ok "version=" versionRefusal versionAt t s1 v (c .before .before .before .before .before .before .rest-of .ensures)
+    (sym (c .before .before .before .before .before .before .before .before .before .count-line .ensures) ∙
+    c .before .before .before .before .before .before .before .enum-told .given .1) in
+    let k = c .before .before .enum-told3 .given .0 .0 in
     let b = number-bad "principals=" principalsRefusal principalsAt s1 k
-    (sym (c .before .before .before .count-line2 .ensures) ∙ c .before .enum-told3 .given .1) in
-    let r : c .number-refused2 .result ≡ refusalIs k 2 = c .number-refused2 .ensures ∙ ap (λ l. refusalIs (numberRefusal l) 2)
-    (c .before .enum-told3 .given .1) in
-    (ap Head.Refused r ∙ head-refused (length t) (headPart t) k 2 (head-2 t v s1 e1 k 2 b), omega arith)
+    (sym (c .before .before .before .before .count-line2 .ensures) ∙ c .before .before .enum-told3 .given .1) in
+    let r : c .number-refused2 .result ≡ refusalIs k principalsAt = c .number-refused2 .ensures ∙ (λ j. refusalIs (numberRefusal (c .before .before .enum-told3 .given .1 j)) (c .before .principals-at .ensures j)) in
+    (ap Head.Refused r ∙ head-refused (length t) (headPart t) k principalsAt (head-2 t v s1 e1 k principalsAt b), omega arith)
 
 rest-of-requires-2 : tie.Need-rest-of-requires-2
 rest-of-requires-2 c κs = search needs
@@ -92,23 +90,22 @@ number-refused-requires-3 c κs = search needs
 
 returns-3 : tie.Need-returns-3
 returns-3 c =
-    let t = c .before .before .before .before .before .before .before .before .before .before .before .before .before .before .before .before .before .args .text .now in
-    let s1 = c .before .before .before .before .before .before .before .before .before .before .before .rest-of .result .now in
-    let v = c .before .before .before .before .before .before .before .before .before .before .before .before .enum-told .given .0 .0 in
+    let t = c .before .before .before .before .before .before .before .before .before .before .before .before .before .before .before .before .before .before .args .text .now in
+    let s1 = c .before .before .before .before .before .before .before .before .before .before .before .before .rest-of .result .now in
+    let v = c .before .before .before .before .before .before .before .before .before .before .before .before .before .enum-told .given .0 .0 in
     let e1 = number-ok "version=" versionRefusal versionAt t s1 v
-    (c .before .before .before .before .before .before .before .before .before .before .before .rest-of .ensures)
-    (sym (c .before .before .before .before .before .before .before .before .before .before .before .before .before .before .count-line .ensures) ∙
-    c .before .before .before .before .before .before .before .before .before .before .before .before .enum-told .given .1) in
-    let s2 = c .before .before .before .before .before .rest-of2 .result .now in
-    let p = c .before .before .before .before .before .before .before .principals .given .0 .0 in
-    let e2 = number-ok "principals=" principalsRefusal principalsAt s1 s2 p (c .before .before .before .before .before .rest-of2 .ensures)
-    (sym (c .before .before .before .before .before .before .before .before .before .count-line2 .ensures) ∙
-    c .before .before .before .before .before .before .before .principals .given .1) in
-    let k = c .before .enum-told4 .given .0 .0 in
-    let b = number-bad "atoms=" atomsRefusal atomsAt s2 k (sym (c .before .before .before .count-line3 .ensures) ∙ c .before .enum-told4 .given .1) in
-    let r : c .number-refused3 .result ≡ refusalIs k 3 = c .number-refused3 .ensures ∙ ap (λ l. refusalIs (numberRefusal l) 3)
-    (c .before .enum-told4 .given .1) in
-    (ap Head.Refused r ∙ head-refused (length t) (headPart t) k 3 (head-3 t v s1 e1 p s2 e2 k 3 b), omega arith)
+    (c .before .before .before .before .before .before .before .before .before .before .before .before .rest-of .ensures)
+    (sym (c .before .before .before .before .before .before .before .before .before .before .before .before .before .before .before .count-line .ensures) ∙
+    c .before .before .before .before .before .before .before .before .before .before .before .before .before .enum-told .given .1) in
+    let s2 = c .before .before .before .before .before .before .rest-of2 .result .now in
+    let p = c .before .before .before .before .before .before .before .before .principals .given .0 .0 in
+    let e2 = number-ok "principals=" principalsRefusal principalsAt s1 s2 p (c .before .before .before .before .before .before .rest-of2 .ensures)
+    (sym (c .before .before .before .before .before .before .before .before .before .before .count-line2 .ensures) ∙
+    c .before .before .before .before .before .before .before .before .principals .given .1) in
+    let k = c .before .before .enum-told4 .given .0 .0 in
+    let b = number-bad "atoms=" atomsRefusal atomsAt s2 k (sym (c .before .before .before .before .count-line3 .ensures) ∙ c .before .before .enum-told4 .given .1) in
+    let r : c .number-refused3 .result ≡ refusalIs k atomsAt = c .number-refused3 .ensures ∙ (λ j. refusalIs (numberRefusal (c .before .before .enum-told4 .given .1 j)) (c .before .atoms-at .ensures j)) in
+    (ap Head.Refused r ∙ head-refused (length t) (headPart t) k atomsAt (head-3 t v s1 e1 p s2 e2 k atomsAt b), omega arith)
 
 rest-of-requires-3 : tie.Need-rest-of-requires-3
 rest-of-requires-3 c κs = search needs
@@ -130,30 +127,29 @@ number-refused-requires-4 c κs = search needs
 
 returns-4 : tie.Need-returns-4
 returns-4 c =
-    let t = c .before .before .before .before .before .before .before .before .before .before .before .before .before .before .before .before .before .before .before .before .before .before .before .args .text .now in
-    let s1 = c .before .before .before .before .before .before .before .before .before .before .before .before .before .before .before .before .before .rest-of .result .now in
-    let v = c .before .before .before .before .before .before .before .before .before .before .before .before .before .before .before .before .before .before .enum-told .given .0 .0 in
+    let t = c .before .before .before .before .before .before .before .before .before .before .before .before .before .before .before .before .before .before .before .before .before .before .before .before .args .text .now in
+    let s1 = c .before .before .before .before .before .before .before .before .before .before .before .before .before .before .before .before .before .before .rest-of .result .now in
+    let v = c .before .before .before .before .before .before .before .before .before .before .before .before .before .before .before .before .before .before .before .enum-told .given .0 .0 in
     let e1 = number-ok "version=" versionRefusal versionAt t s1 v
-    (c .before .before .before .before .before .before .before .before .before .before .before .before .before .before .before .before .before .rest-of .ensures)
-    (sym (c .before .before .before .before .before .before .before .before .before .before .before .before .before .before .before .before .before .before .before .before .count-line .ensures) ∙
-    c .before .before .before .before .before .before .before .before .before .before .before .before .before .before .before .before .before .before .enum-told .given .1) in
-    let s2 = c .before .before .before .before .before .before .before .before .before .before .before .rest-of2 .result .now in
-    let p = c .before .before .before .before .before .before .before .before .before .before .before .before .before .principals .given .0 .0 in
+    (c .before .before .before .before .before .before .before .before .before .before .before .before .before .before .before .before .before .before .rest-of .ensures)
+    (sym (c .before .before .before .before .before .before .before .before .before .before .before .before .before .before .before .before .before .before .before .before .before .count-line .ensures) ∙
+    c .before .before .before .before .before .before .before .before .before .before .before .before .before .before .before .before .before .before .before .enum-told .given .1) in
+    let s2 = c .before .before .before .before .before .before .before .before .before .before .before .before .rest-of2 .result .now in
+    let p = c .before .before .before .before .before .before .before .before .before .before .before .before .before .before .principals .given .0 .0 in
     let e2 = number-ok "principals=" principalsRefusal principalsAt s1 s2 p
-    (c .before .before .before .before .before .before .before .before .before .before .before .rest-of2 .ensures)
-    (sym (c .before .before .before .before .before .before .before .before .before .before .before .before .before .before .before .count-line2 .ensures) ∙
-    c .before .before .before .before .before .before .before .before .before .before .before .before .before .principals .given .1) in
-    let s3 = c .before .before .before .before .before .rest-of3 .result .now in
-    let n = c .before .before .before .before .before .before .before .atoms .given .0 .0 in
-    let e3 = number-ok "atoms=" atomsRefusal atomsAt s2 s3 n (c .before .before .before .before .before .rest-of3 .ensures)
-    (sym (c .before .before .before .before .before .before .before .before .before .count-line3 .ensures) ∙
-    c .before .before .before .before .before .before .before .atoms .given .1) in
-    let k = c .before .enum-told5 .given .0 .0 in
+    (c .before .before .before .before .before .before .before .before .before .before .before .before .rest-of2 .ensures)
+    (sym (c .before .before .before .before .before .before .before .before .before .before .before .before .before .before .before .before .count-line2 .ensures) ∙
+    c .before .before .before .before .before .before .before .before .before .before .before .before .before .before .principals .given .1) in
+    let s3 = c .before .before .before .before .before .before .rest-of3 .result .now in
+    let n = c .before .before .before .before .before .before .before .before .atoms .given .0 .0 in
+    let e3 = number-ok "atoms=" atomsRefusal atomsAt s2 s3 n (c .before .before .before .before .before .before .rest-of3 .ensures)
+    (sym (c .before .before .before .before .before .before .before .before .before .before .count-line3 .ensures) ∙
+    c .before .before .before .before .before .before .before .before .atoms .given .1) in
+    let k = c .before .before .enum-told5 .given .0 .0 in
     let b = number-bad "formulas=" formulasRefusal formulasAt s3 k
-    (sym (c .before .before .before .count-line4 .ensures) ∙ c .before .enum-told5 .given .1) in
-    let r : c .number-refused4 .result ≡ refusalIs k 4 = c .number-refused4 .ensures ∙ ap (λ l. refusalIs (numberRefusal l) 4)
-    (c .before .enum-told5 .given .1) in
-    (ap Head.Refused r ∙ head-refused (length t) (headPart t) k 4 (head-4 t v s1 e1 p s2 e2 n s3 e3 k 4 b), omega arith)
+    (sym (c .before .before .before .before .count-line4 .ensures) ∙ c .before .before .enum-told5 .given .1) in
+    let r : c .number-refused4 .result ≡ refusalIs k formulasAt = c .number-refused4 .ensures ∙ (λ j. refusalIs (numberRefusal (c .before .before .enum-told5 .given .1 j)) (c .before .formulas-at .ensures j)) in
+    (ap Head.Refused r ∙ head-refused (length t) (headPart t) k formulasAt (head-4 t v s1 e1 p s2 e2 n s3 e3 k formulasAt b), omega arith)
 
 rest-of-requires-4 : tie.Need-rest-of-requires-4
 rest-of-requires-4 c κs = search needs
@@ -199,7 +195,7 @@ returns-5 c =
     let e4 = number-ok "formulas=" formulasRefusal formulasAt s3 s4 f (c .rest-of4 .ensures)
     (sym (c .before .before .before .before .count-line4 .ensures) ∙ c .before .before .formulas .given .1) in (
       head-read (length t) (headPart t) p n f s4 (head-5 t v s1 e1 p s2 e2 n s3 e3 f s4 e4),
-      count-most 1 1024
+      count-most 1 mostFormulas
           (number (valueOf (bytes "formulas=") s3)) f (sym (c .before .before .before .before .count-line4 .ensures) ∙
           c .before .before .formulas .given .1),
     )
@@ -212,6 +208,7 @@ read-head-spec =
     count-line-requires
     enum-told
     enum-told-2
+    (λ c κs. search needs)
     number-refused-requires
     returns
     rest-of-requires
@@ -219,6 +216,7 @@ read-head-spec =
     count-line-requires-2
     enum-known-principals
     enum-told-3
+    (λ c κs. search needs)
     number-refused-requires-2
     returns-2
     rest-of-requires-2
@@ -226,6 +224,7 @@ read-head-spec =
     count-line-requires-3
     enum-known-atoms
     enum-told-4
+    (λ c κs. search needs)
     number-refused-requires-3
     returns-3
     rest-of-requires-3
@@ -233,6 +232,7 @@ read-head-spec =
     count-line-requires-4
     enum-known-formulas
     enum-told-5
+    (λ c κs. search needs)
     number-refused-requires-4
     returns-4
     rest-of-requires-4

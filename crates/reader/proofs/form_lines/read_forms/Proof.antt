@@ -1,8 +1,9 @@
 -- `reader::form_lines::read_forms` meets its contract: the table holds the formulas read so far, and what is left of the text gives the others. The measure is
 -- the formulas that are left.
 use Prim.Native.Nat.{_+_, _-_, _*_, _≤_, _<_}
-use mathlib.Core.Path.{ap, _∙_}
+use mathlib.Core.Path.{_∙_}
 use lib.ListN.{length, length-set}
+use Rattle.scope.specs.Limits.{mostFormulas}
 use Rattle.scope.specs.File.Reader.{formItem}
 use Rattle.scope.specs.Call.Tables.{formEntry}
 use Rattle.lines.specs.Values.{Behind}
@@ -38,7 +39,7 @@ behind c =
     (line (c .before .before .before))
     (c .before .got .given .0 .0) (c .before .got .given .0 .1 .0) (c .before .got .given .0 .1 .1 .0) (c .before .got .given .1)
 
-few : (c : tie.After-known-told Inv-loop μ-loop) → c .before .before .before .before .before .before .before .loop .i < 1024
+few : (c : tie.After-known-told Inv-loop μ-loop) → c .before .before .before .before .before .before .before .loop .i < mostFormulas
 few c =
     omega (
       arith,
@@ -77,27 +78,20 @@ enum-known-got c = search needs
 enum-told : tie.Need-enum-told Inv-loop μ-loop
 enum-told c = search needs
 
-cast-place : tie.Need-cast-place Inv-loop μ-loop
-cast-place c = omega (arith, c .before .before .before .before .before .before .before .before .before .pre .0)
-
-add-place : tie.Need-add-place Inv-loop μ-loop
-add-place c = omega (arith, c .before .before .before .before .before .before .before .before .before .pre .0)
-
 row-refused-requires : tie.Need-row-refused-requires Inv-loop μ-loop
 row-refused-requires c κs = search needs
 
 same-length : tie.Need-same-length Inv-loop μ-loop
-same-length c = c .before .before .before .before .before .before .before .loop .inv .long
+same-length c = c .before .before .before .before .before .before .before .before .loop .inv .long
 
 returns : tie.Need-returns Inv-loop μ-loop
 returns c =
-    form-stops (c .before .before .before .before .before .before .before .before .before .before .args .principals)
-    (c .before .before .before .before .before .before .before .before .before .before .args .atoms)
-    (c .before .before .before .before .before .before .before .loop .inv) (c .before .before .before .before .before .before .loop-test .taken)
-    (line (c .before .before .before))
-    (c .before .enum-told .given .0 .0) (c .before .enum-told .given .1) (c .row-refused .result)
-    (c .row-refused .ensures ∙ ap (λ l. refusalIs (rowRefused l) (5 + c .before .before .before .before .before .before .before .loop .i))
-    (c .before .enum-told .given .1))
+    form-stops (c .before .before .before .before .before .before .before .before .before .before .before .args .principals)
+    (c .before .before .before .before .before .before .before .before .before .before .before .args .atoms)
+    (c .before .before .before .before .before .before .before .before .loop .inv) (c .before .before .before .before .before .before .before .loop-test .taken)
+    (line (c .before .before .before .before))
+    (c .before .before .enum-told .given .0 .0) (c .before .before .enum-told .given .1) (c .row-refused .result)
+    (c .row-refused .ensures ∙ (λ j. refusalIs (rowRefused (c .before .before .enum-told .given .1 j)) (c .before .form-at .ensures j)))
 
 cast-at : tie.Need-cast-at Inv-loop μ-loop
 cast-at c = omega (arith, few c)
@@ -181,8 +175,7 @@ read-forms-spec =
     form-line-requires
     enum-known-got
     enum-told
-    cast-place
-    add-place
+    (λ c κs. search needs)
     row-refused-requires
     same-length
     returns

@@ -2,6 +2,7 @@
 use Prim.Native.Nat.{_≤_}
 use mathlib.Core.Path.{ap, sym, subst, _∙_}
 use lib.ListN.{length}
+use Rattle.scope.specs.Limits.{mostFormulas}
 use Rattle.scope.specs.Call.Tables.{formEntry}
 use Rattle.reader.specs.Sections.{formulasPart}
 use Rattle.reader.specs.Answers.{formulaCount, sectionRefused}
@@ -37,8 +38,8 @@ forms c =
     }
 
 -- The bound on the count stands in what the call for the first four lines ensures.
-few : (c : tie.After-head) → c .head .given .0 .1 .1 .0 ≤ 1024
-few c = subst (λ h. formulaCount h ≤ 1024) (c .head .given .1) (c .before .before .read-head .ensures .1)
+few : (c : tie.After-head) → c .head .given .0 .1 .1 .0 ≤ mostFormulas
+few c = subst (λ h. formulaCount h ≤ mostFormulas) (c .head .given .1) (c .before .before .read-head .ensures .1)
 
 read-head-requires : tie.Need-read-head-requires
 read-head-requires c κs = search needs

@@ -23,9 +23,6 @@ returns c =
     (number (c .before .before .before .before .before .args .value .now)) _
     (sym (c .before .before .formula-line .ensures) ∙ c .enum-told .given .1)
 
-class-in-requires : tie.Need-class-in-requires
-class-in-requires c κs = search needs
-
 is-policy-requires : tie.Need-is-policy-requires
 is-policy-requires c κs = search needs
 
@@ -34,14 +31,14 @@ returns-2 c =
     let a = c .before .before .before .before .before .before .before .before .before .args in
     class-met policyIn (a .classes .now) (a .formulas) (number (a .value .now)) (c .before .before .before .before .got .given .0 .0)
     (sym (c .before .before .before .before .before .before .formula-line .ensures) ∙ c .before .before .before .before .got .given .1)
-    (ap policyIn (sym (c .before .before .class-in .ensures)) ∙ sym (c .before .is-policy .ensures) ∙ c .if1 .taken)
+    (ap policyIn (sym (c .before .before .byte-at .ensures)) ∙ sym (c .before .is-policy .ensures) ∙ c .if1 .taken)
 
 returns-3 : tie.Need-returns-3
 returns-3 c =
     let a = c .before .before .before .before .before .before .before .before .before .args in
     class-unmet policyIn (a .classes .now) (a .formulas) (number (a .value .now)) (c .before .before .before .before .got .given .0 .0)
     (sym (c .before .before .before .before .before .before .formula-line .ensures) ∙ c .before .before .before .before .got .given .1)
-    (ap policyIn (sym (c .before .before .class-in .ensures)) ∙ sym (c .before .is-policy .ensures) ∙ c .if1 .left)
+    (ap policyIn (sym (c .before .before .byte-at .ensures)) ∙ sym (c .before .is-policy .ensures) ∙ c .if1 .left)
 
 pub clause-line-spec : {M : Type 1} → statement M
 clause-line-spec =
@@ -51,7 +48,8 @@ clause-line-spec =
     enum-known-got
     enum-told
     returns
-    class-in-requires
+    (λ c. search needs)
+    (λ c κs. search needs)
     is-policy-requires
     returns-2
     returns-3)

@@ -42,9 +42,6 @@ returns c =
     (number (valueOf (bytes "goal=") (c .before .before .before .before .before .before .before .args .text .now))) _
     (sym (found (c .before .before)) ∙ c .enum-told .given .1)
 
-class-in-requires : tie.Need-class-in-requires
-class-in-requires c κs = search needs
-
 is-goal-requires : tie.Need-is-goal-requires
 is-goal-requires c κs = search needs
 
@@ -54,7 +51,7 @@ returns-2 c =
     class-met goalIn (a .classes .now) (a .formulas) (number (valueOf (bytes "goal=") (a .text .now)))
     (c .before .before .before .before .got .given .0 .0)
     (sym (found (c .before .before .before .before .before .before)) ∙ c .before .before .before .before .got .given .1)
-    (ap goalIn (sym (c .before .before .class-in .ensures)) ∙ sym (c .before .is-goal .ensures) ∙ c .if1 .taken)
+    (ap goalIn (sym (c .before .before .byte-at .ensures)) ∙ sym (c .before .is-goal .ensures) ∙ c .if1 .taken)
 
 returns-3 : tie.Need-returns-3
 returns-3 c =
@@ -62,7 +59,7 @@ returns-3 c =
     class-unmet goalIn (a .classes .now) (a .formulas) (number (valueOf (bytes "goal=") (a .text .now)))
     (c .before .before .before .before .got .given .0 .0)
     (sym (found (c .before .before .before .before .before .before)) ∙ c .before .before .before .before .got .given .1)
-    (ap goalIn (sym (c .before .before .class-in .ensures)) ∙ sym (c .before .is-goal .ensures) ∙ c .if1 .left)
+    (ap goalIn (sym (c .before .before .byte-at .ensures)) ∙ sym (c .before .is-goal .ensures) ∙ c .if1 .left)
 
 pub goal-line-spec : {M : Type 1} → statement M
 goal-line-spec =
@@ -74,7 +71,8 @@ goal-line-spec =
     enum-known-got
     enum-told
     returns
-    class-in-requires
+    (λ c. search needs)
+    (λ c κs. search needs)
     is-goal-requires
     returns-2
     returns-3)

@@ -3,6 +3,7 @@
 use Prim.Native.Nat.{_+_, _-_, _≤_, _<_}
 use mathlib.Core.Path.{ap, _∙_}
 use lib.ListN.{length}
+use Rattle.scope.specs.Limits.{mostPolicyLines}
 use Rattle.scope.specs.Call.Tables.{lineEntry}
 use Rattle.lines.specs.Values.{Behind}
 use Rattle.reader.specs.Sections.{classedItem}
@@ -38,7 +39,7 @@ behind c =
     (line (c .before .before .before))
     (c .before .got .given .0 .0) (c .before .got .given .1)
 
-few : (c : tie.After-known-told Inv-loop μ-loop) → c .before .before .before .before .before .before .before .loop .i < 128
+few : (c : tie.After-known-told Inv-loop μ-loop) → c .before .before .before .before .before .before .before .loop .i < mostPolicyLines
 few c =
     omega (
       arith,
@@ -77,47 +78,20 @@ enum-known-got c = search needs
 enum-told : tie.Need-enum-told Inv-loop μ-loop
 enum-told c = search needs
 
-add-place : tie.Need-add-place Inv-loop μ-loop
-add-place c =
-    omega (
-      arith,
-      c .before .before .before .before .before .before .before .before .before .before .pre .0,
-      c .before .before .before .before .before .before .before .before .before .before .fits .formulas .fits,
-    )
-
-cast-place : tie.Need-cast-place Inv-loop μ-loop
-cast-place c =
-    omega (
-      arith,
-      c .before .before .before .before .before .before .before .before .before .before .pre .0,
-      c .before .before .before .before .before .before .before .before .before .before .fits .formulas .fits,
-    )
-
-add-place-2 : tie.Need-add-place-2 Inv-loop μ-loop
-add-place-2 c =
-    omega (
-      arith,
-      c .before .before .before .before .before .before .before .before .before .before .pre .0,
-      c .before .before .before .before .before .before .before .before .before .before .fits .formulas .fits,
-    )
-
 number-refused-requires : tie.Need-number-refused-requires Inv-loop μ-loop
 number-refused-requires c κs = search needs
 
 same-length : tie.Need-same-length Inv-loop μ-loop
-same-length c = c .before .before .before .before .before .before .before .loop .inv .long
+same-length c = c .before .before .before .before .before .before .before .before .loop .inv .long
 
 returns : tie.Need-returns Inv-loop μ-loop
 returns c =
-    clause-stops (c .before .before .before .before .before .before .before .before .before .before .before .args .classes .now)
-    (c .before .before .before .before .before .before .before .before .before .before .before .args .formulas)
-    (c .before .before .before .before .before .before .before .loop .inv) (c .before .before .before .before .before .before .loop-test .taken)
-    (line (c .before .before .before))
-    (c .before .enum-told .given .0 .0) (c .before .enum-told .given .1) (c .number-refused .result)
-    (c .number-refused .ensures ∙ ap
-    (λ l. refusalIs (numberRefusal l)
-    (6 + c .before .before .before .before .before .before .before .before .before .before .before .args .formulas + c .before .before .before .before .before .before .before .loop .i))
-    (c .before .enum-told .given .1))
+    clause-stops (c .before .before .before .before .before .before .before .before .before .before .before .before .args .classes .now)
+    (c .before .before .before .before .before .before .before .before .before .before .before .before .args .formulas)
+    (c .before .before .before .before .before .before .before .before .loop .inv) (c .before .before .before .before .before .before .before .loop-test .taken)
+    (line (c .before .before .before .before))
+    (c .before .before .enum-told .given .0 .0) (c .before .before .enum-told .given .1) (c .number-refused .result)
+    (c .number-refused .ensures ∙ (λ j. refusalIs (numberRefusal (c .before .before .enum-told .given .1 j)) (c .before .clause-at .ensures j)))
 
 cast-at : tie.Need-cast-at Inv-loop μ-loop
 cast-at c = omega (arith, few c)
@@ -181,9 +155,7 @@ read-clauses-spec =
     clause-line-requires
     enum-known-got
     enum-told
-    add-place
-    cast-place
-    add-place-2
+    (λ c κs. search needs)
     number-refused-requires
     same-length
     returns

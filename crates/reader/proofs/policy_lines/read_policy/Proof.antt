@@ -4,6 +4,7 @@ use mathlib.Core.Path.{ap, sym, _∙_}
 use lib.ListN.{length}
 use Rattle.scope.specs.File.Bytes.{bytes}
 use Rattle.scope.specs.File.Number.{number}
+use Rattle.scope.specs.Limits.{mostPolicyLines, clausesAt, goalAt}
 use Rattle.scope.specs.Call.Tables.{unpack, formEntry, lineEntry}
 use Rattle.lines.specs.Parts.{valueOf}
 use Rattle.reader.specs.Sections.{policyPart}
@@ -55,23 +56,20 @@ enum-known-count c = search needs
 enum-told : tie.Need-enum-told
 enum-told c = search needs
 
-add-place : tie.Need-add-place
-add-place c = search needs
-
 number-refused-requires : tie.Need-number-refused-requires
 number-refused-requires c κs = search needs
 
 returns : tie.Need-returns
 returns c =
-    let n = c .before .before .before .before .before .before .before .before .args .formulas in
-    let t = c .before .before .before .before .before .before .before .before .args .text .now in
-    let k = c .before .enum-told .given .0 .0 in
+    let n = c .before .before .before .before .before .before .before .before .before .args .formulas in
+    let t = c .before .before .before .before .before .before .before .before .before .args .text .now in
+    let k = c .before .before .enum-told .given .0 .0 in
     policy-refused (length t)
-    (policyPart (unpack formEntry n (c .before .before .before .before .before .before .before .before .args .forms .now)) t)
-    (refusalIs k (5 + n))
-    (clauses-stopped (c .before .before .before .before .before .before .before .before .args .forms .now) n t k
-    (sym (c .before .before .before .count-line .ensures) ∙ c .before .enum-told .given .1))
-    (c .number-refused .result) (c .number-refused .ensures ∙ ap (λ l. refusalIs (numberRefusal l) (5 + n)) (c .before .enum-told .given .1))
+    (policyPart (unpack formEntry n (c .before .before .before .before .before .before .before .before .before .args .forms .now)) t)
+    (refusalIs k (clausesAt n))
+    (clauses-stopped (c .before .before .before .before .before .before .before .before .before .args .forms .now) n t k
+    (sym (c .before .before .before .before .count-line .ensures) ∙ c .before .before .enum-told .given .1))
+    (c .number-refused .result) (c .number-refused .ensures ∙ (λ j. refusalIs (numberRefusal (c .before .before .enum-told .given .1 j)) (c .before .clauses-at .ensures j)))
 
 rest-of-requires : tie.Need-rest-of-requires
 rest-of-requires c κs = search needs
@@ -84,7 +82,7 @@ slice-aggregate-read-clauses c = search needs
 
 read-clauses-requires : tie.Need-read-clauses-requires
 read-clauses-requires c κs = (
-  count-most 0 128 (number (valueOf (bytes "clauses=")
+  count-most 0 mostPolicyLines (number (valueOf (bytes "clauses=")
       (c .before .before .before .before .before .before .before .before .before .before .before .before .args .text .now)))
       (c .before .before .before .before .before .count .given .0 .0)
       (sym (c .before .before .before .before .before .before .before .count-line .ensures) ∙
@@ -138,15 +136,6 @@ enum-known-last c = search needs
 enum-told-3 : tie.Need-enum-told-3
 enum-told-3 c = search needs
 
-add-place-2 : tie.Need-add-place-2
-add-place-2 c = search needs
-
-cast-place : tie.Need-cast-place
-cast-place c = search needs
-
-add-place-3 : tie.Need-add-place-3
-add-place-3 c = search needs
-
 number-refused-requires-2 : tie.Need-number-refused-requires-2
 number-refused-requires-2 c κs = search needs
 
@@ -155,18 +144,18 @@ same-length-2 c = search needs
 
 returns-3 : tie.Need-returns-3
 returns-3 c =
-    let t = c .before .before .before .before .before .before .before .before .before .before .before .before .before .before .before .before .before .before .before .before .before .before .before .before .args .text .now in
-    let n = c .before .before .before .before .before .before .before .before .before .before .before .before .before .before .before .before .before .before .before .before .before .before .before .before .args .formulas in
-    let place = 6 + n + c .before .before .before .before .before .before .before .before .before .before .before .before .before .before .before .before .before .count .given .0 .0 in
-    let k = c .before .enum-told3 .given .0 .0 in
+    let t = c .before .before .before .before .before .before .before .before .before .before .before .before .before .before .before .before .before .before .before .before .before .before .before .before .before .args .text .now in
+    let n = c .before .before .before .before .before .before .before .before .before .before .before .before .before .before .before .before .before .before .before .before .before .before .before .before .before .args .formulas in
+    let place = goalAt n (c .before .before .before .before .before .before .before .before .before .before .before .before .before .before .before .before .before .before .count .given .0 .0) in
+    let k = c .before .before .enum-told3 .given .0 .0 in
     policy-refused (length t)
     (policyPart (unpack formEntry n
-    (c .before .before .before .before .before .before .before .before .before .before .before .before .before .before .before .before .before .before .before .before .before .before .before .before .args .forms .now)) t)
+    (c .before .before .before .before .before .before .before .before .before .before .before .before .before .before .before .before .before .before .before .before .before .before .before .before .before .args .forms .now)) t)
     (refusalIs k place)
-    (goal-stopped (clauses (c .before .before .before .before .before .before .before .before .before .before .before .before .before .before))
-    (lines (c .before .before .before .before .before .before .before)) k
-    (sym (c .before .before .before .goal-line .ensures) ∙ c .before .enum-told3 .given .1))
-    (c .number-refused2 .result) (c .number-refused2 .ensures ∙ ap (λ l. refusalIs (numberRefusal l) place) (c .before .enum-told3 .given .1))
+    (goal-stopped (clauses (c .before .before .before .before .before .before .before .before .before .before .before .before .before .before .before))
+    (lines (c .before .before .before .before .before .before .before .before)) k
+    (sym (c .before .before .before .before .goal-line .ensures) ∙ c .before .before .enum-told3 .given .1))
+    (c .number-refused2 .result) (c .number-refused2 .ensures ∙ (λ j. refusalIs (numberRefusal (c .before .before .enum-told3 .given .1 j)) (c .before .goal-at .ensures j)))
 
 rest-of-requires-2 : tie.Need-rest-of-requires-2
 rest-of-requires-2 c κs = search needs
@@ -197,7 +186,7 @@ read-policy-spec =
     count-line-requires
     enum-known-count
     enum-told
-    add-place
+    (λ c κs. search needs)
     number-refused-requires
     returns
     rest-of-requires
@@ -216,9 +205,7 @@ read-policy-spec =
     goal-line-requires
     enum-known-last
     enum-told-3
-    add-place-2
-    cast-place
-    add-place-3
+    (λ c κs. search needs)
     number-refused-requires-2
     same-length-2
     returns-3

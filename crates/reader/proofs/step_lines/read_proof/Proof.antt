@@ -4,6 +4,7 @@ use mathlib.Core.Path.{ap, sym, _∙_}
 use lib.ListN.{length}
 use Rattle.scope.specs.File.Bytes.{bytes}
 use Rattle.scope.specs.File.Number.{number}
+use Rattle.scope.specs.Limits.{mostSteps, stepsAt}
 use Rattle.scope.specs.Call.Tables.{stepEntry}
 use Rattle.lines.specs.Parts.{valueOf}
 use Rattle.reader.specs.Sections.{stepsPart}
@@ -52,34 +53,28 @@ enum-known-line c = search needs
 enum-told : tie.Need-enum-told
 enum-told c = search needs
 
-add-place : tie.Need-add-place
-add-place c = search needs
-
-add-place-2 : tie.Need-add-place-2
-add-place-2 c = search needs
-
 number-refused-requires : tie.Need-number-refused-requires
 number-refused-requires c κs = search needs
 
 returns : tie.Need-returns
 returns c =
-    let t = c .before .before .before .before .before .before .before .args .text .now in
-    let place = 7 + c .before .before .before .before .before .before .before .args .formulas + c .before .before .before .before .before .before .before .args .clauses in
-    let k = c .before .enum-told .given .0 .0 in
+    let t = c .before .before .before .before .before .before .before .before .args .text .now in
+    let place = stepsAt (c .before .before .before .before .before .before .before .before .args .formulas) (c .before .before .before .before .before .before .before .before .args .clauses) in
+    let k = c .before .before .enum-told .given .0 .0 in
     steps-refused (length t)
-    (stepsPart (c .before .before .before .before .before .before .before .args .formulas)
-    (c .before .before .before .before .before .before .before .args .clauses) t) (refusalIs k place)
-    (steps-stopped (c .before .before .before .before .before .before .before .args .formulas)
-    (c .before .before .before .before .before .before .before .args .clauses) t k
-    (sym (c .before .before .before .count-line .ensures) ∙ c .before .enum-told .given .1))
-    (c .number-refused .result) (c .number-refused .ensures ∙ ap (λ l. refusalIs (numberRefusal l) place) (c .before .enum-told .given .1))
+    (stepsPart (c .before .before .before .before .before .before .before .before .args .formulas)
+    (c .before .before .before .before .before .before .before .before .args .clauses) t) (refusalIs k place)
+    (steps-stopped (c .before .before .before .before .before .before .before .before .args .formulas)
+    (c .before .before .before .before .before .before .before .before .args .clauses) t k
+    (sym (c .before .before .before .before .count-line .ensures) ∙ c .before .before .enum-told .given .1))
+    (c .number-refused .result) (c .number-refused .ensures ∙ (λ j. refusalIs (numberRefusal (c .before .before .enum-told .given .1 j)) (c .before .steps-at .ensures j)))
 
 rest-of-requires : tie.Need-rest-of-requires
 rest-of-requires c κs = search needs
 
 read-steps-requires : tie.Need-read-steps-requires
 read-steps-requires c κs = (
-  count-most 1 2048 (number (valueOf (bytes "steps=")
+  count-most 1 mostSteps (number (valueOf (bytes "steps=")
       (c .before .before .before .before .before .before .before .before .before .args .text .now)))
       (c .before .before .before .line .given .0 .0)
       (sym (c .before .before .before .before .before .count-line .ensures) ∙ c .before .before .before .line .given .1),
@@ -138,8 +133,7 @@ read-proof-spec =
     count-line-requires
     enum-known-line
     enum-told
-    add-place
-    add-place-2
+    (λ c κs. search needs)
     number-refused-requires
     returns
     rest-of-requires

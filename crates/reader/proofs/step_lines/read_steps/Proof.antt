@@ -3,6 +3,7 @@
 use Prim.Native.Nat.{_+_, _-_, _*_, _≤_, _<_}
 use mathlib.Core.Path.{ap, _∙_}
 use lib.ListN.{length, length-set}
+use Rattle.scope.specs.Limits.{mostSteps}
 use Rattle.scope.specs.File.Reader.{stepItem}
 use Rattle.scope.specs.Call.Tables.{stepEntry}
 use Rattle.lines.specs.Values.{Behind}
@@ -35,7 +36,7 @@ behind c =
     (line (c .before .before .before))
     (c .before .got .given .0 .0) (c .before .got .given .1)
 
-few : (c : tie.After-known-told Inv-loop μ-loop) → c .before .before .before .before .before .before .before .loop .i < 2048
+few : (c : tie.After-known-told Inv-loop μ-loop) → c .before .before .before .before .before .before .before .loop .i < mostSteps
 few c =
     omega (
       arith,
@@ -74,59 +75,20 @@ enum-known-got c = search needs
 enum-told : tie.Need-enum-told Inv-loop μ-loop
 enum-told c = search needs
 
-add-place : tie.Need-add-place Inv-loop μ-loop
-add-place c =
-    omega (
-      arith,
-      c .before .before .before .before .before .before .before .before .before .pre .0,
-      c .before .before .before .before .before .before .before .before .before .fits .formulas .fits,
-      c .before .before .before .before .before .before .before .before .before .fits .clauses .fits,
-    )
-
-add-place-2 : tie.Need-add-place-2 Inv-loop μ-loop
-add-place-2 c =
-    omega (
-      arith,
-      c .before .before .before .before .before .before .before .before .before .pre .0,
-      c .before .before .before .before .before .before .before .before .before .fits .formulas .fits,
-      c .before .before .before .before .before .before .before .before .before .fits .clauses .fits,
-    )
-
-cast-place : tie.Need-cast-place Inv-loop μ-loop
-cast-place c =
-    omega (
-      arith,
-      c .before .before .before .before .before .before .before .before .before .pre .0,
-      c .before .before .before .before .before .before .before .before .before .fits .formulas .fits,
-      c .before .before .before .before .before .before .before .before .before .fits .clauses .fits,
-    )
-
-add-place-3 : tie.Need-add-place-3 Inv-loop μ-loop
-add-place-3 c =
-    omega (
-      arith,
-      c .before .before .before .before .before .before .before .before .before .pre .0,
-      c .before .before .before .before .before .before .before .before .before .fits .formulas .fits,
-      c .before .before .before .before .before .before .before .before .before .fits .clauses .fits,
-    )
-
 step-refused-requires : tie.Need-step-refused-requires Inv-loop μ-loop
 step-refused-requires c κs = search needs
 
 same-length : tie.Need-same-length Inv-loop μ-loop
-same-length c = c .before .before .before .before .before .before .before .loop .inv .long
+same-length c = c .before .before .before .before .before .before .before .before .loop .inv .long
 
 returns : tie.Need-returns Inv-loop μ-loop
 returns c =
-    step-stops (c .before .before .before .before .before .before .before .before .before .before .args .formulas)
-    (c .before .before .before .before .before .before .before .before .before .before .args .clauses)
-    (c .before .before .before .before .before .before .before .loop .inv) (c .before .before .before .before .before .before .loop-test .taken)
-    (line (c .before .before .before))
-    (c .before .enum-told .given .0 .0) (c .before .enum-told .given .1) (c .step-refused .result)
-    (c .step-refused .ensures ∙ ap
-    (λ l. refusalIs (stepRefused l)
-    (8 + c .before .before .before .before .before .before .before .before .before .before .args .formulas + c .before .before .before .before .before .before .before .before .before .before .args .clauses + c .before .before .before .before .before .before .before .loop .i))
-    (c .before .enum-told .given .1))
+    step-stops (c .before .before .before .before .before .before .before .before .before .before .before .args .formulas)
+    (c .before .before .before .before .before .before .before .before .before .before .before .args .clauses)
+    (c .before .before .before .before .before .before .before .before .loop .inv) (c .before .before .before .before .before .before .before .loop-test .taken)
+    (line (c .before .before .before .before))
+    (c .before .before .enum-told .given .0 .0) (c .before .before .enum-told .given .1) (c .step-refused .result)
+    (c .step-refused .ensures ∙ (λ j. refusalIs (stepRefused (c .before .before .enum-told .given .1 j)) (c .before .step-at .ensures j)))
 
 pair-of-requires : tie.Need-pair-of-requires Inv-loop μ-loop
 pair-of-requires c κs = search needs
@@ -209,10 +171,7 @@ read-steps-spec =
     step-line-requires
     enum-known-got
     enum-told
-    add-place
-    add-place-2
-    cast-place
-    add-place-3
+    (λ c κs. search needs)
     step-refused-requires
     same-length
     returns

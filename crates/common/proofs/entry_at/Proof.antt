@@ -1,9 +1,9 @@
--- `classes::entry_at` meets its contract: past the end there is no entry, which reads as 0.
+-- `common::entry_at` meets its contract: past the end there is no entry, which reads as 0.
 use borrow.Author.Needs.{needs}
 use lib.ListN.{List·getD-eq-default}
 use mathlib.Core.Path.{sym}
-use Rattle.classes.proofs.entry_at.Statement.{statement}
-use Rattle.classes.proofs.entry_at.Tie as tie
+use Rattle.common.proofs.entry_at.Statement.{statement}
+use Rattle.common.proofs.entry_at.Tie as tie
 
 mul-result : tie.Need-mul-result
 mul-result c = search needs

@@ -1,0 +1,146 @@
+// What reader, checks, writer, judge and gate share: the limits of document 01, the lines of the file, the counts of a request, a refusal with
+// its place, and what stands at a place of a table.
+ghost use mathlib.Core.Path.{_≡_};
+ghost use Prim.Native.Nat.{suc};
+ghost use lib.ListN.{getD};
+ghost use Rattle.scope.specs.Call.Tables.{hasRoom};
+ghost use Rattle.scope.specs.Limits.{versionAt, principalsAt, atomsAt, formulasAt, formAt, clausesAt, clauseAt, goalAt, stepsAt, stepAt, endAt};
+
+// 'What the numbers count': what is allowed. The definitions name the same limits in scope/specs/Limits.
+pub const MOST_BYTES: usize = 65536;
+
+pub const MOST_PRINCIPALS: u16 = 16;
+
+pub const MOST_ATOMS: u16 = 256;
+
+pub const MOST_FORMULAS: u16 = 1024;
+
+pub const MOST_POLICY_LINES: u16 = 128;
+
+pub const MOST_STEPS: u16 = 2048;
+
+pub const MOST_STEP_NUMBER: u32 = 65535;
+
+// The room of each lent table: 3 numbers a formula, 1 a policy line, 2 a step.
+pub const FORM_ROOM: usize = 3 * (MOST_FORMULAS as usize);
+
+pub const POLICY_ROOM: usize = MOST_POLICY_LINES as usize;
+
+pub const STEP_ROOM: usize = 2 * (MOST_STEPS as usize);
+
+// The counts and the goal of a request, laid out for programs in other languages too.
+#[repr(C)]
+pub struct Counts {
+    pub principals: u16,
+    pub atoms: u16,
+    pub formulas: u16,
+    pub lines: u16,
+    pub goal: u16,
+    pub steps: u16,
+}
+
+// The number of a refusal, and its place.
+pub struct Refusal {
+    pub number: u16,
+    pub place: u32,
+}
+
+// The lines of the file, counted from 1. All that follow `version=` are told from the line of `principals=`.
+pub fn version_at() -> u32
+    ensures { λ r. ⌜ r ≡ versionAt ⌝ }
+{
+    1
+}
+
+pub fn principals_at() -> u32
+    ensures { λ r. ⌜ r ≡ principalsAt ⌝ }
+{
+    2
+}
+
+pub fn atoms_at() -> u32
+    ensures { λ r. ⌜ r ≡ atomsAt ⌝ }
+{
+    principals_at() + 1
+}
+
+pub fn formulas_at() -> u32
+    ensures { λ r. ⌜ r ≡ formulasAt ⌝ }
+{
+    principals_at() + 2
+}
+
+// The line of formula number `i`.
+pub fn form_at(i: u16) -> u32
+    ensures { λ r. ⌜ r ≡ formAt i ⌝ }
+{
+    principals_at() + 3 + i as u32
+}
+
+pub fn clauses_at(formulas: u16) -> u32
+    ensures { λ r. ⌜ r ≡ clausesAt formulas ⌝ }
+{
+    principals_at() + 3 + formulas as u32
+}
+
+// The line of policy line number `j`.
+pub fn clause_at(formulas: u16, j: u16) -> u32
+    ensures { λ r. ⌜ r ≡ clauseAt formulas j ⌝ }
+{
+    principals_at() + 4 + formulas as u32 + j as u32
+}
+
+pub fn goal_at(formulas: u16, clauses: u16) -> u32
+    ensures { λ r. ⌜ r ≡ goalAt formulas clauses ⌝ }
+{
+    principals_at() + 4 + formulas as u32 + clauses as u32
+}
+
+pub fn steps_at(formulas: u16, clauses: u16) -> u32
+    ensures { λ r. ⌜ r ≡ stepsAt formulas clauses ⌝ }
+{
+    principals_at() + 5 + formulas as u32 + clauses as u32
+}
+
+// The line of the step behind `before` others: steps count from 1.
+pub fn step_at(formulas: u16, clauses: u16, before: u16) -> u32
+    ensures { λ r. ⌜ r ≡ stepAt formulas clauses (suc before) ⌝ }
+{
+    principals_at() + 6 + formulas as u32 + clauses as u32 + before as u32
+}
+
+// The line behind the last step.
+pub fn end_at(formulas: u16, clauses: u16, steps: u16) -> u32
+    ensures { λ r. ⌜ r ≡ endAt formulas clauses steps ⌝ }
+{
+    principals_at() + 6 + formulas as u32 + clauses as u32 + steps as u32
+}
+
+// Lent tables of these lengths have room for the largest counts.
+pub fn has_room(forms: usize, policy: usize, steps: usize) -> bool
+    ensures { λ r. ⌜ r ≡ hasRoom forms policy steps ⌝ }
+{
+    if forms < FORM_ROOM {
+        return false;
+    }
+    if policy < POLICY_ROOM {
+        return false;
+    }
+    if steps < STEP_ROOM {
+        return false;
+    }
+    true
+}
+
+// What stands at a place of a table, 0 past its end.
+pub fn entry_at(table: &[u16], at: usize) -> u16
+    ensures { λ r. ⌜ r ≡ getD (now (table .entry)) at 0 ⌝ }
+{
+    if at < table.len() { table[at] } else { 0 }
+}
+
+pub fn byte_at(bytes: &[u8], at: usize) -> u8
+    ensures { λ r. ⌜ r ≡ getD (now (bytes .entry)) at 0 ⌝ }
+{
+    if at < bytes.len() { bytes[at] } else { 0 }
+}
