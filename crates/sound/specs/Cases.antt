@@ -1,13 +1,20 @@
 -- Document 01's cases P2, P5 and P7 are refused for good: their policies do not entail their goals, so no steps at all are a derivation.
 -- Each model is computed to meet Definition 1's conditions and to refute. P5 and P7 leave the count of principals open: any allowed one.
-use Prim.Native.Nat.{ℕ, _<_, _≤_}
+-- `for-good` says it of the cases' own texts.
+use Prim.Native.Nat.{ℕ, _-_, _<_, _≤_}
 use mathlib.Core.Path.{_≡_, refl}
 use mathlib.Core.Bool.{Bool, true, false}
-use mathlib.Core.List.{List, [], _∷_, map}
+use mathlib.Core.List.{List, [], _∷_}
 use native.Mathlib.Omega.{arith}
 use lib.Dec.{eqb}
+use lib.ListN.{getD}
 use Rattle.scope.specs.Logic.Form.{Form, atom, imp, says, sf, both, either, negate}
-use Rattle.scope.specs.File.Request.{Row, formula}
+use Rattle.scope.specs.File.Bytes.{bytes}
+use Rattle.scope.specs.File.Request.{Request}
+use Rattle.scope.specs.File.Reader.{read, readRequest}
+use Rattle.scope.specs.Call.Calls.{requestIn}
+use Rattle.scope.specs.Call.Judge.{startOf, prints}
+use Rattle.scope.specs.Worked.Cases.{Case, case, twelve}
 use Rattle.scope.specs.Limits.{mostPrincipals}
 use Rattle.scope.specs.Logic.Obligation.{Obligation, Step, start}
 use Rattle.scope.specs.Logic.Derivation.{Derivation}
@@ -20,21 +27,6 @@ use Rattle.sound.specs.Refuted.{refutes, underived}
 -- P2: P1 with `form=sf 0 1`. The policy is (0 says p0) imp p0, 0 sf 1 and 1 says p0, the goal p0.
 abbrev pub policy2 : List Form
 policy2 = imp (says 0 (atom 0)) (atom 0) ∷ sf 0 1 ∷ says 1 (atom 0) ∷ []
-
--- These are the trees of its `form=` lines.
-row : ℕ → ℕ → ℕ → Row
-row c l r = record { kind = c; left = l; right = r }
-
-rows2 : List Row
-rows2 = row 0 0 0 ∷ row 6 0 0 ∷ row 5 1 0 ∷ row 7 0 1 ∷ row 6 1 0 ∷ []
-
-policy2-read : map (formula rows2) (2 ∷ 3 ∷ 4 ∷ []) ≡ policy2
-unfolding row rows2 formula
-policy2-read = refl
-
-goal2-read : formula rows2 0 ≡ atom 0
-unfolding row rows2 formula
-goal2-read = refl
 
 -- One world, to which S_0 leads and S_1 does not; 0 sf 1 there; p0 nowhere.
 unfoldable pub model2 : Model
@@ -118,3 +110,49 @@ module _ (room : ℕ → List Obligation → Bool) (xs : List Step) where
       model7
       0
       computed7
+
+-- A text reads to a request, and no steps derive that request's goal, whatever the limits.
+pub record ForGood (c : Case) : Type 0 where
+  pub request : Request
+  pub reads : readRequest (bytes (c .text)) ≡ read request
+  pub not-derived : (room : ℕ → List Obligation → Bool) (xs : List Step) → Derivation room (startOf request) xs → ⊥
+
+-- Case P i of the twelve.
+abbrev pub caseOf : ℕ → Case
+caseOf i = getD twelve (i - 1) (case "" (prints 0 0 0))
+
+requestIn-case : ℕ → Request
+requestIn-case i = requestIn (readRequest (bytes (caseOf i .text)))
+
+-- What each text says: it reads, and its policy and goal are those above.
+record Reads-to (i k : ℕ) (policy : List Form) (goal : Form) : Type 0 where
+  reads : readRequest (bytes (caseOf i .text)) ≡ read (requestIn-case i)
+  says-so : startOf (requestIn-case i) ≡ start k policy goal
+
+text2 : Reads-to 2 2 policy2 (atom 0)
+unfolding readRequest twelve requestIn requestIn-case startOf start
+text2 = record { reads = refl; says-so = refl }
+
+text5 : Reads-to 5 1 policy5 (says 0 (atom 0))
+unfolding readRequest twelve requestIn requestIn-case startOf start
+text5 = record { reads = refl; says-so = refl }
+
+text7 : Reads-to 7 2 policy7 (says 0 (atom 0))
+unfolding readRequest twelve requestIn requestIn-case startOf start
+text7 = record { reads = refl; says-so = refl }
+
+good : (i k : ℕ) (policy : List Form) (goal : Form) → Reads-to i k policy goal →
+    ((room : ℕ → List Obligation → Bool) (xs : List Step) → Derivation room (start k policy goal) xs → ⊥) → ForGood (caseOf i)
+good i k policy goal t h =
+    record {
+      request = requestIn-case i;
+      reads = t .reads;
+      not-derived = λ room xs d. h room xs (rw (t .says-so) at d);
+    }
+
+pub for-good : ForGood (caseOf 2) × ForGood (caseOf 5) × ForGood (caseOf 7)
+for-good = (
+  good 2 2 policy2 (atom 0) text2 underived2,
+  good 5 1 policy5 (says 0 (atom 0)) text5 (λ room xs. underived5 room xs 1 (omega arith) (omega arith)),
+  good 7 2 policy7 (says 0 (atom 0)) text7 (λ room xs. underived7 room xs 2 (omega arith) (omega arith)),
+)

@@ -6,4 +6,6 @@ pub mod Tests
 pub mod Computed
 pub mod Refuted
 pub mod Cases
+pub mod Unasked
+pub mod Witnesses
 pub mod Rows

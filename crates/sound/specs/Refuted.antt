@@ -1,18 +1,19 @@
--- A countermodel, computed: where `refutes` holds of a finite model, no steps are a derivation of that goal from that policy, whatever the
--- limits (`underived`). A model over more principals than the request has serves too.
-use Prim.Native.Nat.{ℕ, _≤_}
+-- A countermodel, computed: where `refutes` holds of a finite model, that policy does not entail that goal (`unentailed`), and no steps are
+-- a derivation of it, whatever the limits (`underived`). A model over more principals than the request has serves too.
+use Prim.Native.Nat.{ℕ, _<_, _≤_}
 use mathlib.Core.Path.{_≡_, refl}
 use mathlib.Core.Bool.{Bool, true, false}
 use mathlib.Core.List.{List, [], _∷_}
 use native.Mathlib.Omega.{arith}
 use lib.Dec.{ltb}
 use borrow.Author.Tests.{ltb-true}
-use Rattle.scope.specs.Tools.Tests.{never}
-use Rattle.scope.specs.Logic.Form.{Form, negate}
+use Rattle.scope.specs.Tools.Tests.{never, both-true}
+use Rattle.scope.specs.Logic.Form as F
+use Rattle.scope.specs.Logic.Form.{Form, both, negate}
 use Rattle.scope.specs.Logic.Obligation.{Obligation, Step, start}
 use Rattle.scope.specs.Logic.Derivation.{Derivation}
 use Rattle.scope.specs.Logic.Models as M
-use Rattle.scope.specs.Logic.Models.{Model, Future, Frame}
+use Rattle.scope.specs.Logic.Models.{Model, Future, Frame, Sat, SatAll, Entailed}
 use Rattle.sound.specs.Over.{Over, All}
 use Rattle.sound.specs.Sound.{refuted}
 use Rattle.sound.specs.Tests.{alltrue, each-true}
@@ -23,7 +24,7 @@ unfoldable pub refutes : ℕ → ℕ → Model → ℕ → List Form → Form �
 refutes k n m x policy goal =
     alltrue (frame k n m ∷ ltb x (m .worlds) ∷ evalAll m x policy ∷ negate (eval m x goal) ∷ [])
 
-negate-true : (b : Bool) → negate b ≡ true → b ≡ false
+pub negate-true : (b : Bool) → negate b ≡ true → b ≡ false
 unfolding negate
 negate-true true e = never cc
 negate-true false e = refl
@@ -49,17 +50,67 @@ module _ (m : Model) (k more n : ℕ) (up : k ≤ more) where
         mon-sf = λ a b x y c d i j t. fr .mon-sf a b x y (omega arith) (omega arith) i j (future-more t);
       }
 
+-- What a model that refutes meets: the frame conditions, and at the world x the policy, and not the goal.
+pub record Refuting (k n : ℕ) (m : Model) (x : ℕ) (policy : List Form) (goal : Form) : Type 0 where
+  pub meets : Frame k n m
+  pub inside : x < m .worlds
+  pub holds : SatAll m x policy
+  pub fails : Sat m x goal → ⊥
+
+pub refuting : (k n : ℕ) (m : Model) (x : ℕ) (policy : List Form) (goal : Form) → refutes k n m x policy goal ≡ true →
+    Refuting k n m x policy goal
+unfolding refutes
+refuting k n m x policy goal e =
+    let h = each-true (frame k n m ∷ ltb x (m .worlds) ∷ evalAll m x policy ∷ negate (eval m x goal) ∷ []) e in
+    record {
+      meets = frame-ok k n m (h .0);
+      inside = ltb-true x (m .worlds) (h .1 .0);
+      holds = evalAll-true m x policy (h .1 .1 .0);
+      fails = eval-false m x goal (negate-true (eval m x goal) (h .1 .1 .1 .0));
+    }
+
+pub unentailed : (k n : ℕ) (m : Model) (x : ℕ) (policy : List Form) (goal : Form) → refutes k n m x policy goal ≡ true →
+    Entailed k n policy goal → ⊥
+unfolding Entailed
+unentailed k n m x policy goal e t =
+    let r = refuting k n m x policy goal e in
+    r .fails (t m (r .meets) x (r .inside) (r .holds))
+
 module _ (room : ℕ → List Obligation → Bool) (k n : ℕ) (policy : List Form) (goal : Form) (xs : List Step) where
   pub underived : All (Over k n) policy → Over k n goal → (more : ℕ) → k ≤ more →
       (m : Model) (x : ℕ) → refutes more n m x policy goal ≡ true →
       Derivation room (start k policy goal) xs → ⊥
-  unfolding refutes
   underived o g more up m x e d =
-      let h = each-true (frame more n m ∷ ltb x (m .worlds) ∷ evalAll m x policy ∷ negate (eval m x goal) ∷ []) e in
-      refuted room k n policy goal xs o g m
-      (frame-fewer m k more n up (frame-ok more n m (h .0)))
-      x
-      (ltb-true x (m .worlds) (h .1 .0))
-      (evalAll-true m x policy (h .1 .1 .0))
-      (eval-false m x goal (negate-true (eval m x goal) (h .1 .1 .1 .0)))
-      d
+      let r = refuting more n m x policy goal e in
+      refuted room k n policy goal xs o g m (frame-fewer m k more n up (r .meets)) x (r .inside) (r .holds) (r .fails) d
+
+-- The numbers of a formula, and of several, computed.
+unfoldable pub over : ℕ → ℕ → Form → Bool
+over k n (F.atom p) = ltb p n
+over k n F.top = true
+over k n F.bot = true
+over k n (F.and f g) = both (over k n f) (over k n g)
+over k n (F.or f g) = both (over k n f) (over k n g)
+over k n (F.imp f g) = both (over k n f) (over k n g)
+over k n (F.says a f) = both (ltb a k) (over k n f)
+over k n (F.sf a b) = both (ltb a k) (ltb b k)
+
+pub over-ok : (k n : ℕ) (f : Form) → over k n f ≡ true → Over k n f
+unfolding over Over
+over-ok k n (F.atom p) e = ltb-true p n e
+over-ok k n F.top e = tt
+over-ok k n F.bot e = tt
+over-ok k n (F.and f g) e = let h = both-true _ _ e in (over-ok k n f (h .0), over-ok k n g (h .1))
+over-ok k n (F.or f g) e = let h = both-true _ _ e in (over-ok k n f (h .0), over-ok k n g (h .1))
+over-ok k n (F.imp f g) e = let h = both-true _ _ e in (over-ok k n f (h .0), over-ok k n g (h .1))
+over-ok k n (F.says a f) e = let h = both-true _ _ e in (ltb-true a k (h .0), over-ok k n f (h .1))
+over-ok k n (F.sf a b) e = let h = both-true _ _ e in (ltb-true a k (h .0), ltb-true b k (h .1))
+
+unfoldable pub overAll : ℕ → ℕ → List Form → Bool
+overAll k n [] = true
+overAll k n (f ∷ fs) = both (over k n f) (overAll k n fs)
+
+pub overAll-ok : (k n : ℕ) (fs : List Form) → overAll k n fs ≡ true → All (Over k n) fs
+unfolding overAll
+overAll-ok k n [] e = tt
+overAll-ok k n (f ∷ fs) e = let h = both-true _ _ e in (over-ok k n f (h .0), overAll-ok k n fs (h .1))
