@@ -53,7 +53,10 @@ fn limits_of_the_document() {
 fn rooms_and_version_of_the_header() {
     let most = numbers("PERADUKSI_MOST_");
     let product = |words: &str| -> usize {
-        words.split(" * ").map(|word| word.parse().unwrap_or_else(|_| most[&word["PERADUKSI_MOST_".len()..].to_lowercase()])).product()
+        words
+            .split(" * ")
+            .map(|word| word.parse().unwrap_or_else(|_| most[&word["PERADUKSI_MOST_".len()..].to_lowercase()]))
+            .product()
     };
     let lines = HEADER.lines().filter_map(|line| line.trim().trim_end_matches(',').split_once("_ROOM = "));
     let rooms: Vec<_> = lines.map(|(name, words)| (name, product(words))).collect();

@@ -49,7 +49,8 @@ fn agreement(file: &[u8], printed: Printed) -> Option<&'static str> {
         Ok(counts) => counts,
         Err(refusal) => return same(refusal).then_some("not read"),
     };
-    let alike = judge(counts, &forms, &policy, &steps).map_or_else(same, |()| (printed.answer, printed.place) == (0, 0));
+    let alike =
+        judge(counts, &forms, &policy, &steps).map_or_else(same, |()| (printed.answer, printed.place) == (0, 0));
     let mut text = vec![0; MOST_BYTES];
     let length = write(counts, &forms, &policy, &steps, &mut text).ok()?;
     (alike && text[..length] == *file).then_some("written back the same")
