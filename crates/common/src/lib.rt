@@ -1,5 +1,5 @@
-// What reader, checks, writer, judge and gate share: the limits of document 01, the lines of the file, the counts of a request, a refusal with
-// its place, and what stands at a place of a table.
+// What reader, checks, writer, judge and gate share: the limits of document 01, the lines of the file, the counts of a request, the answer
+// of every call, and what stands at a place of a table.
 ghost use mathlib.Core.Path.{_≡_};
 ghost use Prim.Native.Nat.{suc};
 ghost use lib.ListN.{getD};
@@ -39,9 +39,10 @@ pub struct Counts {
     pub steps: u16,
 }
 
-// The number of a refusal, and its place.
-pub struct Refusal {
-    pub number: u16,
+// What comes back: a refusal number of document 01, 0 where there is none, and its place. Laid out for programs in other languages too.
+#[repr(C)]
+pub struct Answer {
+    pub refusal: u16,
     pub place: u32,
 }
 

@@ -7,6 +7,7 @@ use mathlib.Core.Option.{Option, none, some}
 use native.Mathlib.Omega.{arith}
 use lib.Dec.{leb}
 use lib.ListN.{length}
+use Rattle.scope.specs.Call.Answer.{answer}
 use Rattle.scope.specs.File.Request.{Request}
 use Rattle.scope.specs.Limits.{mostBytes}
 use Rattle.scope.specs.File.Line.{Line, Value, val, out, Read, ok, bad, Reader, Cut, parts, uncut, cut, strip, orRefused, shapedAs, valued, placed, lineOf, line, andThen, _>>=_, done, many, counted}
@@ -16,7 +17,7 @@ use Rattle.scope.specs.Call.Calls.{reading}
 use Rattle.scope.specs.Tools.Tests.{never}
 
 pub record Firm {A : Type 0} (m : Reader A) : Type 0 where
-  pub firm : (s : List ℕ) (k i : ℕ) → m s ≡ bad k i → 0 < k
+  pub firm : (s : List ℕ) (k i : ℕ) → m s ≡ bad (answer k i) → 0 < k
 
 settled-firm : {A : Type 0} (n : ℕ) (a : A) (k : ℕ) → orRefused n a ≡ out k → 0 < k
 unfolding orRefused
@@ -39,14 +40,14 @@ valued-firm l refusal none k e =
     omega arith
 valued-firm l refusal (some v) k e = judged-firm refusal (l .shape .thing v) k e
 
-placed-firm : {A : Type 0} (j : ℕ) (v : Value A) (rest : List ℕ) (k i : ℕ) → ((n : ℕ) → v ≡ out n → 0 < n) → placed j v rest ≡ bad k i → 0 < k
+placed-firm : {A : Type 0} (j : ℕ) (v : Value A) (rest : List ℕ) (k i : ℕ) → ((n : ℕ) → v ≡ out n → 0 < n) → placed j v rest ≡ bad (answer k i) → 0 < k
 unfolding placed
 placed-firm j (val a) rest k i h e = never cc
 placed-firm j (out n) rest k i h e =
     let z : n ≡ k = cc in
     rw z at (h n refl)
 
-line-of-firm : {A : Type 0} (l : Line A) (refusal : A → ℕ) (j : ℕ) (c : Cut) (k i : ℕ) → lineOf l refusal j c ≡ bad k i → 0 < k
+line-of-firm : {A : Type 0} (l : Line A) (refusal : A → ℕ) (j : ℕ) (c : Cut) (k i : ℕ) → lineOf l refusal j c ≡ bad (answer k i) → 0 < k
 unfolding lineOf
 line-of-firm l refusal j uncut k i e =
     let z : 2 ≡ k = cc in
@@ -58,11 +59,11 @@ line-firm : {A : Type 0} (l : Line A) (refusal : A → ℕ) (j : ℕ) → Firm (
 unfolding line
 line-firm l refusal j = record { firm = λ s k i e. line-of-firm l refusal j (cut 10 s) k i e }
 
-after-firm : {A B : Type 0} (x : Read A) (next : A → Reader B) (k i : ℕ) → ((n j : ℕ) → x ≡ bad n j → 0 < n) →
-    ((a : A) → Firm (next a)) → andThen x next ≡ bad k i → 0 < k
+after-firm : {A B : Type 0} (x : Read A) (next : A → Reader B) (k i : ℕ) → ((n j : ℕ) → x ≡ bad (answer n j) → 0 < n) →
+    ((a : A) → Firm (next a)) → andThen x next ≡ bad (answer k i) → 0 < k
 unfolding andThen
 after-firm (ok a rest) next k i h f e = f a .firm rest k i e
-after-firm (bad n j) next k i h f e =
+after-firm (bad (answer n j)) next k i h f e =
     let z : n ≡ k = cc in
     rw z at (h n j refl)
 
@@ -97,26 +98,26 @@ lines-firm =
     then-firm (counted-firm _ _ _ _ (λ b. line-firm _ _ _)) λ steps.
     done-firm _
 
-ended-firm : (x : Read Request) (k i : ℕ) → ((n j : ℕ) → x ≡ bad n j → 0 < n) → ended x ≡ refused k i → 0 < k
+ended-firm : (x : Read Request) (k i : ℕ) → ((n j : ℕ) → x ≡ bad (answer n j) → 0 < n) → ended x ≡ refused (answer k i) → 0 < k
 unfolding ended
 ended-firm (ok q []) k i h e = never cc
 ended-firm (ok q (b ∷ rest)) k i h e =
     let z : 6 ≡ k = cc in
     omega arith
-ended-firm (bad n j) k i h e =
+ended-firm (bad (answer n j)) k i h e =
     let z : n ≡ k = cc in
     rw z at (h n j refl)
 
-request-firm : (s : List ℕ) (k i : ℕ) → readRequest s ≡ refused k i → 0 < k
+request-firm : (s : List ℕ) (k i : ℕ) → readRequest s ≡ refused (answer k i) → 0 < k
 unfolding readRequest
 request-firm s k i e = ended-firm (requestLines s) k i (λ n j d. lines-firm .firm s n j d) e
 
 -- No refusal of the reader has number 0.
-pub reading-firm : (forms lines steps : ℕ) (s : List ℕ) (k place : ℕ) → reading forms lines steps s ≡ refused k place → 0 < k
+pub reading-firm : (forms lines steps : ℕ) (s : List ℕ) (k place : ℕ) → reading forms lines steps s ≡ refused (answer k place) → 0 < k
 unfolding reading
 reading-firm f l n s k place e = go (hasRoom f l n) (leb (length s) mostBytes) e
   where
-    go : (a b : Bool) → cond a (cond b (readRequest s) (refused 1 0)) (refused 13 0) ≡ refused k place → 0 < k
+    go : (a b : Bool) → cond a (cond b (readRequest s) (refused (answer 1 0))) (refused (answer 13 0)) ≡ refused (answer k place) → 0 < k
     go true true d = request-firm s k place d
     go true false d =
         let z : 1 ≡ k = cc in

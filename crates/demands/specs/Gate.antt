@@ -26,7 +26,7 @@ gateReads s = reading (3 * mostFormulas) mostPolicyLines (2 * mostSteps) s
 
 -- What the gate may print for a file: the reader's refusal with no steps; or the steps read, with the answer that the rules settle.
 pub data Prints (s : List ℕ) : Printed → Type 0 where
-  unread : {k place : ℕ} → gateReads s ≡ refused k place → Prints s (prints k place 0)
+  unread : {k place : ℕ} → gateReads s ≡ refused (answer k place) → Prints s (prints k place 0)
   answered : {q : Request} {k place : ℕ} → gateReads s ≡ read q → Settled within (startOf q) (stepsOf q) (answer k place) →
       Prints s (prints k place (length (q .steps)))
 
@@ -42,8 +42,8 @@ judged-read : (q : Request) → printedAfter (read q) ≡ printed (stepsAnswer q
 unfolding printedAfter
 judged-read q = refl
 
-judged-refused : (k place : ℕ) → printedAfter (refused k place) ≡ prints k place 0
-unfolding printedAfter
+judged-refused : (k place : ℕ) → printedAfter (refused (answer k place)) ≡ prints k place 0
+unfolding printedAfter printed
 judged-refused k place = refl
 
 -- Demands 1 and 2: for every file one answer, and it is allowed;
@@ -55,7 +55,7 @@ gate-prints s = go (gateReads s) refl
 
     go : (o : Outcome) → gateReads s ≡ o → Prints s (gate s)
     go (read q) e = rw (gate-law s, e, judged-read q) (of q (stepsAnswer q) e refl)
-    go (refused k place) e = rw (gate-law s, e, judged-refused k place) (unread e)
+    go (refused (answer k place)) e = rw (gate-law s, e, judged-refused k place) (unread e)
 
 -- no other is allowed.
 pub prints-gate : (s : List ℕ) (p : Printed) → Prints s p → gate s ≡ p

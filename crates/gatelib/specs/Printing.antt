@@ -3,6 +3,7 @@ use Prim.Native.Nat.{ℕ, _*_}
 use mathlib.Core.Path.{_≡_, refl, sym, ap, _∙_}
 use mathlib.Core.List.{List}
 use lib.ListN.{length}
+use Rattle.scope.specs.Call.Answer.{answer}
 use Rattle.scope.specs.File.Request.{Request}
 use Rattle.scope.specs.Call.Answer as S
 use Rattle.scope.specs.Limits.{mostFormulas, mostPolicyLines, mostSteps}
@@ -12,13 +13,12 @@ use Rattle.scope.specs.Call.Calls.{formTableAfter, lineTableAfter, stepTableAft
 use Rattle.scope.specs.Call.Judge.{judge, prints, printed, gate}
 use Rattle.scope.specs.Call.Judge as J
 use Rattle.common.specs.declared.Counts.{Counts}
-use Rattle.common.specs.declared.Refusal.{Refusal}
+use Rattle.common.specs.declared.Answer.{Answer as Returned}
 use Rattle.tables.specs.Met.{lentWith}
 use Rattle.reader.specs.declared.Reading.{Reading}
 use Rattle.reader.specs.declared.Reading.the-variants as Reading
 use Rattle.reader.specs.Answers.{countsOf, readingOf}
-use Rattle.judge.specs.declared.Answer.{Answer}
-use Rattle.judge.specs.Answers.{answerOf}
+use Rattle.common.specs.Answers.{answerOf}
 use Rattle.scope.specs.Tools.Tests.{never}
 use Rattle.demands.specs.Gate.{gateReads, gate-judges, prints-gate, unread}
 use Rattle.gatelib.specs.declared.Printed.{Printed}
@@ -28,20 +28,20 @@ printedOf (prints k place n) = record { answer = k; place = place; steps = n }
 
 unfoldable pub unreadOf : Reading → Printed
 unreadOf (Reading.Read c) = record { answer = 0; place = 0; steps = 0 }
-unreadOf (Reading.Refused r) = record { answer = r .number; place = r .place; steps = 0 }
+unreadOf (Reading.Refused r) = record { answer = r .refusal; place = r .place; steps = 0 }
 
-pub unread-prints : (s : List ℕ) (r : Refusal) → readingOf (gateReads s) ≡ Reading.Refused r →
+pub unread-prints : (s : List ℕ) (r : Returned) → readingOf (gateReads s) ≡ Reading.Refused r →
     unreadOf (Reading.Refused r) ≡ printedOf (gate s)
 unfolding readingOf unreadOf printedOf
 unread-prints s r e = go (gateReads s) refl e
   where
     go : (o : Outcome) → gateReads s ≡ o → readingOf o ≡ Reading.Refused r → unreadOf (Reading.Refused r) ≡ printedOf (gate s)
     go (read q) c d = never cc
-    go (refused k place) c d = rw (prints-gate s (prints k place 0) (unread c)) (ap unreadOf (sym d))
+    go (refused (answer k place)) c d = rw (prints-gate s (prints k place 0) (unread c)) (ap unreadOf (sym d))
 
 printed-answer : (a : S.Answer) (n : ℕ) →
     printedOf (printed a n) ≡ record { answer = answerOf a .refusal; place = answerOf a .place; steps = n }
-unfolding printedOf printed answerOf
+unfolding printedOf printed
 printed-answer (S.answer k place) n = refl
 
 -- The tables as reading leaves them, with the counts that it answers, say the request that was read.
@@ -51,18 +51,18 @@ lent-is : (q : Request) →
 unfolding formTableAfter lineTableAfter stepTableAfter requestIn lentOf
 lent-is q = refl
 
-abbrev put : Answer → ℕ → Printed
+abbrev put : Returned → ℕ → Printed
 put a n = record { answer = a .refusal; place = a .place; steps = n }
 
 -- What the gate puts together from the judge's answer and the count of steps.
-pub read-prints : (s : List ℕ) (c : Counts) (forms lines steps : List ℕ) (a : Answer) → readingOf (gateReads s) ≡ Reading.Read c →
+pub read-prints : (s : List ℕ) (c : Counts) (forms lines steps : List ℕ) (a : Returned) → readingOf (gateReads s) ≡ Reading.Read c →
     forms ≡ formTableAfter (3 * mostFormulas) (gateReads s) → lines ≡ lineTableAfter mostPolicyLines (gateReads s) → steps ≡ stepTableAfter (2 * mostSteps) (gateReads s) →
     a ≡ answerOf (judge (lentWith c forms lines steps)) → put a (c .steps) ≡ printedOf (gate s)
 unfolding readingOf
 read-prints s c forms lines steps a e f l p j = go (gateReads s) refl e
   where
     go : (o : Outcome) → gateReads s ≡ o → readingOf o ≡ Reading.Read c → put a (c .steps) ≡ printedOf (gate s)
-    go (refused k place) d h = never cc
+    go (refused (answer k place)) d h = never cc
     go (read q) d h =
         let k : countsOf q ≡ c = cc in
         let t : lentWith c forms lines steps ≡ lentOf (3 * mostFormulas) mostPolicyLines (2 * mostSteps) q =

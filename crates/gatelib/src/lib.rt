@@ -22,7 +22,7 @@ fn unread_by(got: Reading) -> Printed
             steps: 0,
         },
         Reading::Refused(r) => Printed {
-            answer: r.number,
+            answer: r.refusal,
             place: r.place,
             steps: 0,
         },

@@ -1,18 +1,14 @@
 -- Document 01's number and place in the judge's answer, for each case of what it is made of.
-use Rattle.scope.specs.Call.Answer as S
 use Rattle.tables.specs.declared.Checked.{Checked}
 use Rattle.tables.specs.declared.Checked.the-variants as checked
 use Rattle.machine.specs.declared.Walked.{Walked}
 use Rattle.machine.specs.declared.Walked.the-variants as walked
-use Rattle.judge.specs.declared.Answer.{Answer}
-
-unfoldable pub answerOf : S.Answer → Answer
-answerOf (S.answer k place) = record { refusal = k; place = place }
+use Rattle.common.specs.declared.Answer.{Answer}
 
 -- What the checks refuse.
 unfoldable pub refusalAnswer : Checked → Answer
 refusalAnswer checked.Fine = record { refusal = 0; place = 0 }
-refusalAnswer (checked.Refused r) = record { refusal = r .number; place = r .place }
+refusalAnswer (checked.Refused a) = a
 
 -- What the walk answers.
 unfoldable pub walkedTo : Walked → Answer

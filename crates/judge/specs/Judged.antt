@@ -6,7 +6,7 @@ use Rattle.scope.specs.Call.Answer.{answer}
 use Rattle.scope.specs.Call.Tables.{Lent, requestOf}
 use Rattle.scope.specs.Call.Checked.{checked}
 use Rattle.scope.specs.Call.Judge.{stepsAnswer, judge, else}
-use Rattle.common.specs.declared.Refusal.{Refusal}
+use Rattle.common.specs.declared.Answer.{Answer as Returned}
 use Rattle.tables.specs.declared.Checked.the-variants.{Fine, Refused}
 use Rattle.tables.specs.Met.{checkedOf}
 use Rattle.machine.specs.declared.Walked.{Walked}
@@ -16,10 +16,11 @@ use Rattle.scope.specs.Tools.Tests.{never}
 use Rattle.trip.specs.Trip.{unmet}
 use Rattle.walks.specs.Simulation.{ran-walks}
 use Rattle.demands.specs.Judged.{judge-law, else-passes, else-refused}
-use Rattle.judge.specs.Answers.{answerOf, refusalAnswer, walkedTo}
+use Rattle.common.specs.Answers.{answerOf}
+use Rattle.judge.specs.Answers.{refusalAnswer, walkedTo}
 
-pub checks-refuse : (t : Lent) (r : Refusal) → checkedOf (checked t) ≡ Refused r → refusalAnswer (Refused r) ≡ answerOf (judge t)
-unfolding refusalAnswer answerOf checkedOf
+pub checks-refuse : (t : Lent) (r : Returned) → checkedOf (checked t) ≡ Refused r → refusalAnswer (Refused r) ≡ answerOf (judge t)
+unfolding refusalAnswer checkedOf
 checks-refuse t r e = go (checked t) refl e
   where
     go : (a : S.Answer) → checked t ≡ a → checkedOf a ≡ Refused r → refusalAnswer (Refused r) ≡ answerOf (judge t)
@@ -37,7 +38,7 @@ fine-zero t e = go (checked t) refl e
     go (answer (suc k) p) c d = never cc
 
 walked-is : (w : Walked) → walkedTo w ≡ answerOf (walkedAnswer w)
-unfolding walkedTo answerOf walkedAnswer
+unfolding walkedTo walkedAnswer
 walked-is walked.Granted = refl
 walked-is (walked.Refused r) = refl
 

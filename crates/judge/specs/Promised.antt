@@ -7,18 +7,16 @@ use Rattle.scope.specs.Call.Tables.{Lent, requestOf}
 use Rattle.scope.specs.Call.Judge.{policyOf, goalOf, judge}
 use Rattle.scope.specs.Logic.Models.{Entailed}
 use Rattle.demands.specs.Judged.{Grants, judge-allowed, allowed-grants, judge-grants, judge-entails}
-use Rattle.judge.specs.declared.Answer.{Answer}
-use Rattle.judge.specs.Answers.{answerOf}
+use Rattle.common.specs.declared.Answer.{Answer}
+use Rattle.common.specs.Answers.{answerOf}
 
 zero-allowed : (t : Lent) (a : S.Answer) → judge t ≡ a → answerOf a .refusal ≡ 0 → Grants t
-unfolding answerOf
 zero-allowed t (answer k place) e z = allowed-grants t (answer k place) place (ap (λ n. answer n place) z) (rw e at (judge-allowed t))
 
 pub refusal-zero : (t : Lent) (r : Answer) → r ≡ answerOf (judge t) → r .refusal ≡ 0 → Grants t
 refusal-zero t r e z = zero-allowed t (judge t) refl (sym (ap (λ a. a .refusal) e) ∙ z)
 
 pub grants-zero : (t : Lent) (r : Answer) → r ≡ answerOf (judge t) → Grants t → (r .refusal ≡ 0) × (r .place ≡ 0)
-unfolding answerOf
 grants-zero t r e g =
     let h = e ∙ ap answerOf (judge-grants t .1 g) in
     (ap (λ a. a .refusal) h, ap (λ a. a .place) h)

@@ -2,18 +2,13 @@
 ghost use mathlib.Core.Path.{_≡_};
 ghost use Rattle.scope.specs.Call.Judge.{judge as judge'};
 ghost use Rattle.tables.specs.Met.{lentWith};
-ghost use Rattle.judge.specs.Answers.{answerOf, refusalAnswer, walkedTo};
+ghost use Rattle.common.specs.Answers.{answerOf};
+ghost use Rattle.judge.specs.Answers.{refusalAnswer, walkedTo};
+use common::Answer;
 use common::Counts;
 use machine::Walked;
 use machine::walking;
 use tables::Checked;
-
-// A refusal number of document 01, 0 for granted, and its place.
-#[repr(C)]
-pub struct Answer {
-    pub refusal: u16,
-    pub place: u32,
-}
 
 fn refused_by(checks: Checked) -> Answer
     ensures { λ r. ⌜ r ≡ refusalAnswer checks ⌝ }
@@ -23,10 +18,7 @@ fn refused_by(checks: Checked) -> Answer
             refusal: 0,
             place: 0,
         },
-        Checked::Refused(r) => Answer {
-            refusal: r.number,
-            place: r.place,
-        },
+        Checked::Refused(answer) => answer,
     }
 }
 

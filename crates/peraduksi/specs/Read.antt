@@ -1,6 +1,6 @@
 -- What the reader answers, as one record: the refusal and its place, and the counts and the goal, which are 0 after a refusal.
 use mathlib.Core.Path.{_≡_, refl}
-use Rattle.scope.specs.Call.Answer.{refusalIn, placeIn}
+use Rattle.scope.specs.Call.Answer.{answer, refusalIn, placeIn}
 use Rattle.scope.specs.File.Reader.{Outcome, read, refused}
 use Rattle.scope.specs.Call.Calls.{outcomeAnswer, noRequest, requestIn}
 use Rattle.reader.specs.declared.Reading.{Reading}
@@ -14,9 +14,9 @@ readOf o = record { refusal = refusalIn (outcomeAnswer o); place = placeIn (outc
 
 unfoldable pub readIn : Reading → Read
 readIn (Reading.Read c) = record { refusal = 0; place = 0; counts = c }
-readIn (Reading.Refused r) = record { refusal = r .number; place = r .place; counts = countsOf noRequest }
+readIn (Reading.Refused r) = record { refusal = r .refusal; place = r .place; counts = countsOf noRequest }
 
 pub read-in : (o : Outcome) → readIn (readingOf o) ≡ readOf o
 unfolding readIn readingOf readOf refusalIn placeIn outcomeAnswer requestIn
 read-in (read q) = refl
-read-in (refused k place) = refl
+read-in (refused (answer k place)) = refl

@@ -6,12 +6,12 @@ ghost use Rattle.scope.specs.Call.Calls.{reading, formTableAfter, lineTableAfte
 ghost use Rattle.scope.specs.Call.Judge.{judge as judge', gate as gate'};
 ghost use Rattle.tables.specs.Met.{lentWith};
 ghost use Rattle.writer.specs.Writing.{writingOf};
-ghost use Rattle.judge.specs.Answers.{answerOf};
+ghost use Rattle.common.specs.Answers.{answerOf};
 ghost use Rattle.gatelib.specs.Printing.{printedOf};
 ghost use Rattle.peraduksi.specs.Read.{readOf, readIn};
+use common::Answer;
 use common::Counts;
 use gatelib::Printed;
-use judge::Answer;
 use reader::Reading;
 use writer::Writing;
 
@@ -33,7 +33,7 @@ fn read_in(got: Reading) -> Read
             counts,
         },
         Reading::Refused(r) => Read {
-            refusal: r.number,
+            refusal: r.refusal,
             place: r.place,
             counts: Counts {
                 principals: 0,

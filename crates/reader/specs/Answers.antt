@@ -8,8 +8,9 @@ use Rattle.scope.specs.File.Line.{Value, val, out, Read, ok, bad}
 use Rattle.scope.specs.File.Reader.{Outcome, read, refused}
 use Rattle.scope.specs.Call.Answer.{Answer, answer}
 use Rattle.scope.specs.Call.Calls.{outcomeAnswer, noRequest, requestIn}
+use Rattle.common.specs.Answers.{answerOf, answerIs}
 use Rattle.common.specs.declared.Counts.{Counts}
-use Rattle.common.specs.declared.Refusal.{Refusal}
+use Rattle.common.specs.declared.Answer.{Answer as Returned}
 use Rattle.steps.specs.Steps.{stepFrom}
 use Rattle.reader.specs.Sections.{Counted, Formulas, PolicyRead}
 use Rattle.reader.specs.declared.Reading.{Reading}
@@ -29,8 +30,8 @@ use Rattle.reader.specs.declared.Policy.the-variants as Policy
 use Rattle.reader.specs.declared.Steps.{Steps}
 use Rattle.reader.specs.declared.Steps.the-variants as Steps
 
-abbrev pub refusalIs : ℕ → ℕ → Refusal
-refusalIs k place = record { number = k; place = place }
+abbrev pub refusalIs : ℕ → ℕ → Returned
+refusalIs k place = answerOf (answer k place)
 
 -- What the reader answers: the counts and the goal, or the refusal and its place.
 abbrev pub countsOf : Request → Counts
@@ -46,12 +47,12 @@ countsOf q =
 
 unfoldable pub readingOf : Outcome → Reading
 readingOf (read q) = Reading.Read (countsOf q)
-readingOf (refused k place) = Reading.Refused (refusalIs k place)
+readingOf (refused a) = Reading.Refused (answerOf a)
 
 -- Document 01's number and values for each case: 0 at place 0 with the counts and the goal, or the refusal at its place with zeros.
 unfoldable pub answerIn : Reading → Answer
 answerIn (Reading.Read c) = answer 0 0
-answerIn (Reading.Refused r) = answer (r .number) (r .place)
+answerIn (Reading.Refused r) = answer (r .refusal) (r .place)
 
 unfoldable pub countsIn : Reading → Counts
 countsIn (Reading.Read c) = c
@@ -60,12 +61,12 @@ countsIn (Reading.Refused r) = countsOf noRequest
 pub answers-same : (o : Outcome) → answerIn (readingOf o) ≡ outcomeAnswer o
 unfolding answerIn readingOf outcomeAnswer
 answers-same (read q) = refl
-answers-same (refused k place) = refl
+answers-same (refused (answer k place)) = refl
 
 pub counts-same : (o : Outcome) → countsIn (readingOf o) ≡ countsOf (requestIn o)
 unfolding countsIn readingOf requestIn
 counts-same (read q) = refl
-counts-same (refused k place) = refl
+counts-same (refused (answer k place)) = refl
 
 -- Of one line.
 unfoldable pub numberLineOf : Value ℕ → NumberLine
@@ -83,23 +84,23 @@ stepLineOf (out k) = StepLine.Refused k
 -- Of several, in a text of n bytes.
 unfoldable pub sectionOf : {A : Type 0} → ℕ → Read A → Section
 sectionOf n (ok a rest) = Section.Read (n - length rest)
-sectionOf n (bad k i) = Section.Refused (refusalIs k i)
+sectionOf n (bad a) = Section.Refused (answerOf a)
 
 unfoldable pub headOf : ℕ → Read Counted → Head
 headOf n (ok h rest) = Head.Read (h .principals) (h .atoms) (h .formulas) (n - length rest)
-headOf n (bad k i) = Head.Refused (refusalIs k i)
+headOf n (bad a) = Head.Refused (answerOf a)
 
 unfoldable pub formulasOf : ℕ → Read Formulas → Head
 formulasOf n (ok f rest) = Head.Read (f .principals) (f .atoms) (length (f .forms)) (n - length rest)
-formulasOf n (bad k i) = Head.Refused (refusalIs k i)
+formulasOf n (bad a) = Head.Refused (answerOf a)
 
 unfoldable pub policySection : ℕ → Read PolicyRead → Policy
 policySection n (ok p rest) = Policy.Read (length (p .lines)) (p .goal) (n - length rest)
-policySection n (bad k i) = Policy.Refused (refusalIs k i)
+policySection n (bad a) = Policy.Refused (answerOf a)
 
 unfoldable pub stepSection : ℕ → Read (List Row) → Steps
 stepSection n (ok rows rest) = Steps.Read (length rows) (n - length rest)
-stepSection n (bad k i) = Steps.Refused (refusalIs k i)
+stepSection n (bad a) = Steps.Refused (answerOf a)
 
 -- The refusal in an answer; none where the answer is no refusal.
 abbrev pub numberRefusal : NumberLine → ℕ
@@ -114,19 +115,19 @@ abbrev pub stepRefused : StepLine → ℕ
 stepRefused (StepLine.Step x) = 0
 stepRefused (StepLine.Refused k) = k
 
-abbrev pub sectionRefused : Section → Refusal
+abbrev pub sectionRefused : Section → Returned
 sectionRefused (Section.Read at) = refusalIs 0 0
 sectionRefused (Section.Refused r) = r
 
-abbrev pub headRefused : Head → Refusal
+abbrev pub headRefused : Head → Returned
 headRefused (Head.Read p a f at) = refusalIs 0 0
 headRefused (Head.Refused r) = r
 
-abbrev pub policyRefused : Policy → Refusal
+abbrev pub policyRefused : Policy → Returned
 policyRefused (Policy.Read n g at) = refusalIs 0 0
 policyRefused (Policy.Refused r) = r
 
-abbrev pub stepsRefused : Steps → Refusal
+abbrev pub stepsRefused : Steps → Returned
 stepsRefused (Steps.Read n at) = refusalIs 0 0
 stepsRefused (Steps.Refused r) = r
 

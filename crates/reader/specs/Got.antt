@@ -3,12 +3,14 @@ use Prim.Native.Nat.{ℕ, _-_}
 use mathlib.Core.Path.{_≡_, refl, ap, _∙_}
 use mathlib.Core.List.{List}
 use lib.ListN.{length, take, drop}
+use Rattle.scope.specs.Call.Answer.{answer}
 use Rattle.scope.specs.Tools.Tests.{never}
 use Rattle.scope.specs.File.Request.{Row}
 use Rattle.scope.specs.File.Line.{Read, ok, bad, Reader}
 use Rattle.scope.specs.Call.Tables.{Entry, table}
+use Rattle.common.specs.Answers.{answerOf, answerIs}
 use Rattle.lines.specs.Parts.{tail-part}
-use Rattle.common.specs.declared.Refusal.{Refusal}
+use Rattle.common.specs.declared.Answer.{Answer as Returned}
 use Rattle.reader.specs.Sections.{Counted, Formulas, PolicyRead}
 use Rattle.reader.specs.Answers.{sectionOf, headOf, formulasOf, policySection, stepSection}
 use Rattle.reader.specs.Many.{Ends, tail-drop}
@@ -35,14 +37,14 @@ pub record Section-got {A : Type 0} (n : ℕ) (r : Read (List A)) (at : ℕ) : T
 pub section-got : {A : Type 0} (n : ℕ) (r : Read (List A)) (at : ℕ) → sectionOf n r ≡ Section.Read at → Section-got n r at
 unfolding sectionOf
 section-got n (ok xs rest) at e = record { things = xs; rest = rest; is = refl; place = cc }
-section-got n (bad k i) at e = never cc
+section-got n (bad (answer k i)) at e = never cc
 
-pub section-lost : {A : Type 0} (n : ℕ) (r : Read (List A)) (x : Refusal) → sectionOf n r ≡ Section.Refused x → r ≡ bad (x .number) (x .place)
+pub section-lost : {A : Type 0} (n : ℕ) (r : Read (List A)) (x : Returned) → sectionOf n r ≡ Section.Refused x → r ≡ bad (answerIs x)
 unfolding sectionOf
 section-lost n (ok xs rest) x e = never cc
-section-lost {A} n (bad k i) x e =
-    let f : record { number = k; place = i } ≡ x = cc in
-    ap {B = Read (List A)} (λ (y : Refusal). bad (y .number) (y .place)) f
+section-lost {A} n (bad (answer k i)) x e =
+    let f : answerOf (answer k i) ≡ x = cc in
+    ap {B = Read (List A)} (λ (y : Returned). bad (answerIs y)) f
 
 -- A section that was read, and its things in a table.
 pub record Section-kept {A : Type 0} (e : Entry A) (n : ℕ) (r : Read (List A)) : Type 0 where
@@ -64,14 +66,14 @@ head-got n (ok h rest) p a f at e =
     let y : h .atoms ≡ a = cc in
     let z : h .formulas ≡ f = cc in
     record { rest = rest; is = λ i. ok record { principals = x i; atoms = y i; formulas = z i } rest; place = cc }
-head-got n (bad k i) p a f at e = never cc
+head-got n (bad (answer k i)) p a f at e = never cc
 
-pub head-lost : (n : ℕ) (r : Read Counted) (x : Refusal) → headOf n r ≡ Head.Refused x → r ≡ bad (x .number) (x .place)
+pub head-lost : (n : ℕ) (r : Read Counted) (x : Returned) → headOf n r ≡ Head.Refused x → r ≡ bad (answerIs x)
 unfolding headOf
 head-lost n (ok h rest) x e = never cc
-head-lost n (bad k i) x e =
-    let f : record { number = k; place = i } ≡ x = cc in
-    ap {B = Read Counted} (λ (y : Refusal). bad (y .number) (y .place)) f
+head-lost n (bad (answer k i)) x e =
+    let f : answerOf (answer k i) ≡ x = cc in
+    ap {B = Read Counted} (λ (y : Returned). bad (answerIs y)) f
 
 pub record Formulas-got (n : ℕ) (r : Read Formulas) (p a f at : ℕ) : Type 0 where
   pub forms : List Row
@@ -86,14 +88,14 @@ formulas-got n (ok h rest) p a f at e =
     let x : h .principals ≡ p = cc in
     let y : h .atoms ≡ a = cc in
     record { forms = h .forms; rest = rest; is = λ i. ok record { principals = x i; atoms = y i; forms = h .forms } rest; count = cc; place = cc }
-formulas-got n (bad k i) p a f at e = never cc
+formulas-got n (bad (answer k i)) p a f at e = never cc
 
-pub formulas-lost : (n : ℕ) (r : Read Formulas) (x : Refusal) → formulasOf n r ≡ Head.Refused x → r ≡ bad (x .number) (x .place)
+pub formulas-lost : (n : ℕ) (r : Read Formulas) (x : Returned) → formulasOf n r ≡ Head.Refused x → r ≡ bad (answerIs x)
 unfolding formulasOf
 formulas-lost n (ok h rest) x e = never cc
-formulas-lost n (bad k i) x e =
-    let f : record { number = k; place = i } ≡ x = cc in
-    ap {B = Read Formulas} (λ (y : Refusal). bad (y .number) (y .place)) f
+formulas-lost n (bad (answer k i)) x e =
+    let f : answerOf (answer k i) ≡ x = cc in
+    ap {B = Read Formulas} (λ (y : Returned). bad (answerIs y)) f
 
 pub record Policy-got (n : ℕ) (r : Read PolicyRead) (c g at : ℕ) : Type 0 where
   pub lines : List ℕ
@@ -107,14 +109,14 @@ unfolding policySection
 policy-got n (ok p rest) c g at e =
     let x : p .goal ≡ g = cc in
     record { lines = p .lines; rest = rest; is = λ i. ok record { lines = p .lines; goal = x i } rest; count = cc; place = cc }
-policy-got n (bad k i) c g at e = never cc
+policy-got n (bad (answer k i)) c g at e = never cc
 
-pub policy-lost : (n : ℕ) (r : Read PolicyRead) (x : Refusal) → policySection n r ≡ Policy.Refused x → r ≡ bad (x .number) (x .place)
+pub policy-lost : (n : ℕ) (r : Read PolicyRead) (x : Returned) → policySection n r ≡ Policy.Refused x → r ≡ bad (answerIs x)
 unfolding policySection
 policy-lost n (ok p rest) x e = never cc
-policy-lost n (bad k i) x e =
-    let f : record { number = k; place = i } ≡ x = cc in
-    ap {B = Read PolicyRead} (λ (y : Refusal). bad (y .number) (y .place)) f
+policy-lost n (bad (answer k i)) x e =
+    let f : answerOf (answer k i) ≡ x = cc in
+    ap {B = Read PolicyRead} (λ (y : Returned). bad (answerIs y)) f
 
 pub record Steps-got (n : ℕ) (r : Read (List Row)) (c at : ℕ) : Type 0 where
   pub rows : List Row
@@ -126,37 +128,37 @@ pub record Steps-got (n : ℕ) (r : Read (List Row)) (c at : ℕ) : Type 0 where
 pub steps-got : (n : ℕ) (r : Read (List Row)) (c at : ℕ) → stepSection n r ≡ Steps.Read c at → Steps-got n r c at
 unfolding stepSection
 steps-got n (ok rows rest) c at e = record { rows = rows; rest = rest; is = refl; count = cc; place = cc }
-steps-got n (bad k i) c at e = never cc
+steps-got n (bad (answer k i)) c at e = never cc
 
-pub steps-lost : (n : ℕ) (r : Read (List Row)) (x : Refusal) → stepSection n r ≡ Steps.Refused x → r ≡ bad (x .number) (x .place)
+pub steps-lost : (n : ℕ) (r : Read (List Row)) (x : Returned) → stepSection n r ≡ Steps.Refused x → r ≡ bad (answerIs x)
 unfolding stepSection
 steps-lost n (ok rows rest) x e = never cc
-steps-lost n (bad k i) x e =
-    let f : record { number = k; place = i } ≡ x = cc in
-    ap {B = Read (List Row)} (λ (y : Refusal). bad (y .number) (y .place)) f
+steps-lost n (bad (answer k i)) x e =
+    let f : answerOf (answer k i) ≡ x = cc in
+    ap {B = Read (List Row)} (λ (y : Returned). bad (answerIs y)) f
 
-pub never-both : {A : Type 0} {X : Type 0} (r : Read A) (k i : ℕ) (a : A) (rest : List ℕ) → r ≡ bad k i → r ≡ ok a rest → X
+pub never-both : {A : Type 0} {X : Type 0} (r : Read A) (k i : ℕ) (a : A) (rest : List ℕ) → r ≡ bad (answer k i) → r ≡ ok a rest → X
 never-both r k i a rest e f = never cc
 
 pub same-things : {A : Type 0} (r : Read A) (a b : A) (s t : List ℕ) → r ≡ ok a s → r ≡ ok b t → a ≡ b
 same-things r a b s t e f = cc
 
 -- The answers that a reading gives. A refusal says nothing of what was read.
-module _ {X : Formulas → List ℕ → Type 0} (n : ℕ) (r : Read Formulas) (x : Refusal) (e : r ≡ bad (x .number) (x .place)) where
+module _ {X : Formulas → List ℕ → Type 0} (n : ℕ) (r : Read Formulas) (x : Returned) (e : r ≡ bad (answerIs x)) where
   pub formulas-refused : (h : Head) → h ≡ Head.Refused x → (h ≡ formulasOf n r) × ((f : Formulas) (rest : List ℕ) → r ≡ ok f rest → X f rest)
   unfolding formulasOf
-  formulas-refused h d = (d ∙ rw e refl, λ f rest g. never-both r (x .number) (x .place) f rest e g)
+  formulas-refused h d = (d ∙ rw e refl, λ f rest g. never-both r (x .refusal) (x .place) f rest e g)
 
-module _ {X : PolicyRead → List ℕ → Type 0} (n : ℕ) (r : Read PolicyRead) (x : Refusal) (e : r ≡ bad (x .number) (x .place)) where
-  pub policy-refused : (y : Refusal) → y ≡ x → (Policy.Refused y ≡ policySection n r) × ((p : PolicyRead) (rest : List ℕ) → r ≡ ok p rest → X p rest)
+module _ {X : PolicyRead → List ℕ → Type 0} (n : ℕ) (r : Read PolicyRead) (x : Returned) (e : r ≡ bad (answerIs x)) where
+  pub policy-refused : (y : Returned) → y ≡ x → (Policy.Refused y ≡ policySection n r) × ((p : PolicyRead) (rest : List ℕ) → r ≡ ok p rest → X p rest)
   unfolding policySection
-  policy-refused y d = (ap Policy.Refused d ∙ rw e refl, λ p rest g. never-both r (x .number) (x .place) p rest e g)
+  policy-refused y d = (ap Policy.Refused d ∙ rw e refl, λ p rest g. never-both r (x .refusal) (x .place) p rest e g)
 
-module _ {X : List Row → List ℕ → Type 0} (n : ℕ) (r : Read (List Row)) (x : Refusal) (e : r ≡ bad (x .number) (x .place)) where
-  pub steps-refused : (y : Refusal) → y ≡ x → (Steps.Refused y ≡ stepSection n r)
+module _ {X : List Row → List ℕ → Type 0} (n : ℕ) (r : Read (List Row)) (x : Returned) (e : r ≡ bad (answerIs x)) where
+  pub steps-refused : (y : Returned) → y ≡ x → (Steps.Refused y ≡ stepSection n r)
       × ((rows : List Row) (rest : List ℕ) → r ≡ ok rows rest → X rows rest)
   unfolding stepSection
-  steps-refused y d = (ap Steps.Refused d ∙ rw e refl, λ rows rest g. never-both r (x .number) (x .place) rows rest e g)
+  steps-refused y d = (ap Steps.Refused d ∙ rw e refl, λ rows rest g. never-both r (x .refusal) (x .place) rows rest e g)
 
 pub formulas-read : (n : ℕ) (r : Read Formulas) (p a f at : ℕ) (forms : List Row) (rest : List ℕ) → r
     ≡ ok record { principals = p; atoms = a; forms = forms } rest

@@ -7,6 +7,7 @@ use mathlib.Core.Bool.{Bool, true, false}
 use lib.Dec.{ltb}
 use lib.ListN.{length, getD}
 use borrow.Author.Tests.{ltb-true}
+use Rattle.scope.specs.Call.Answer.{answer}
 use Rattle.scope.specs.File.Bytes.{bytes}
 use Rattle.scope.specs.File.Number.{number}
 use Rattle.scope.specs.File.Request.{Row, goalClass, policyClass}
@@ -16,11 +17,12 @@ use Rattle.scope.specs.File.Refusals.{demand, countRefusal, clausesRefusal, ste
 use Rattle.scope.specs.File.Text.{clausesLine, clauseLine, goalLine, stepsLine}
 use Rattle.scope.specs.Call.Tables.{formEntry, lineEntry, stepEntry, table, unpack}
 use Rattle.scope.specs.File.Reader.{formItem, clauseItem, stepItem}
+use Rattle.common.specs.Answers.{answerIs}
 use Rattle.classes.specs.Class.{goalIn, policyIn, classTable}
 use Rattle.classes.specs.Rows.{unpack-length}
 use Rattle.classes.specs.Laws.{goal-at, policy-at}
 use Rattle.lines.specs.Parts.{valueOf, restOf}
-use Rattle.common.specs.declared.Refusal.{Refusal}
+use Rattle.common.specs.declared.Answer.{Answer as Returned}
 use Rattle.refusals.specs.Rows.{classRefusal}
 use Rattle.reader.specs.Sections.{Counted, Formulas, PolicyRead, headPart, formulasPart, policyPart, stepsPart, classedItem}
 use Rattle.reader.specs.Answers.{numberLineOf, sectionOf, headOf, formulasOf, policySection, stepSection}
@@ -47,13 +49,13 @@ many-clause-ends cs n f = many-ends (classedItem cs n) f [] (λ b. line-ends _ _
 
 -- The formulas: the first four lines, then the `form=` lines.
 module _ (s : List ℕ) where
-  formulas-1 : (k i : ℕ) → headPart s ≡ bad k i → formulasPart s ≡ bad k i
+  formulas-1 : (k i : ℕ) → headPart s ≡ bad (answer k i) → formulasPart s ≡ bad (answer k i)
   unfolding formulasPart _>>=_ andThen
   formulas-1 k i e = rw e refl
 
   formulas-2 : (h : Counted) (t : List ℕ) (k i : ℕ) → headPart s ≡ ok h t → many (formItem (h .principals) (h .atoms))
-      (h .formulas) [] t ≡ bad k i
-      → formulasPart s ≡ bad k i
+      (h .formulas) [] t ≡ bad (answer k i)
+      → formulasPart s ≡ bad (answer k i)
   unfolding formulasPart _>>=_ andThen
   formulas-2 h t k i e f = rw e (rw f refl)
 
@@ -63,8 +65,8 @@ module _ (s : List ℕ) where
   unfolding formulasPart _>>=_ andThen
   formulas-3 h t forms rest e f = rw e (rw f refl)
 
-  pub formulas-stopped : (x : Refusal) → headOf (length s) (headPart s) ≡ Head.Refused x → formulasPart s ≡ bad (x .number) (x .place)
-  formulas-stopped x e = formulas-1 (x .number) (x .place) (head-lost (length s) (headPart s) x e)
+  pub formulas-stopped : (x : Returned) → headOf (length s) (headPart s) ≡ Head.Refused x → formulasPart s ≡ bad (answerIs x)
+  formulas-stopped x e = formulas-1 (x .refusal) (x .place) (head-lost (length s) (headPart s) x e)
 
 -- The first four lines as the code has them.
 pub record Head-kept (s : List ℕ) : Type 0 where
@@ -97,10 +99,10 @@ module _ {s : List ℕ} (k : Head-kept s) where
   pub head-place : k .at ≤ length s
   head-place = omega (arith, headRead .place)
 
-  pub forms-stopped : (x : Refusal) → sectionOf (length (behindHead k)) (formsRead k) ≡ Section.Refused x → formulasPart s ≡ bad
-      (x .number) (x .place)
+  pub forms-stopped : (x : Returned) → sectionOf (length (behindHead k)) (formsRead k) ≡ Section.Refused x → formulasPart s ≡ bad
+      (answerIs x)
   forms-stopped x m =
-      formulas-2 s counts (headRead .rest) (x .number) (x .place) (headRead .is)
+      formulas-2 s counts (headRead .rest) (x .refusal) (x .place) (headRead .is)
       (sym same-forms ∙ section-lost (length (behindHead k)) (formsRead k) x m)
 
   module _ (m : Section-kept formEntry (length (behindHead k)) (formsRead k)) where
@@ -163,19 +165,19 @@ module _ (t : List ℕ) (n : ℕ) (small : n ≤ mostFormulas) where
 
 -- The policy: a count, that many `clause=` lines, the goal.
 module _ (forms : List Row) (s : List ℕ) where
-  policy-1 : (k i : ℕ) → line clausesLine clausesRefusal (clausesAt (length forms)) s ≡ bad k i → policyPart forms s ≡ bad k i
+  policy-1 : (k i : ℕ) → line clausesLine clausesRefusal (clausesAt (length forms)) s ≡ bad (answer k i) → policyPart forms s ≡ bad (answer k i)
   unfolding policyPart _>>=_ andThen
   policy-1 k i e = rw e refl
 
   policy-2 : (c : ℕ) (t : List ℕ) (k i : ℕ) → line clausesLine clausesRefusal (clausesAt (length forms)) s ≡ ok c t → many
-      (clauseItem forms) c [] t ≡ bad k i
-      → policyPart forms s ≡ bad k i
+      (clauseItem forms) c [] t ≡ bad (answer k i)
+      → policyPart forms s ≡ bad (answer k i)
   unfolding policyPart _>>=_ andThen
   policy-2 c t k i e f = rw e (rw f refl)
 
   policy-3 : (c : ℕ) (t : List ℕ) (lines u : List ℕ) (k i : ℕ) → line clausesLine clausesRefusal (clausesAt (length forms)) s ≡ ok c t
       → many (clauseItem forms) c [] t ≡ ok lines u
-      → line goalLine (goalRefusal forms) (goalAt (length forms) (length lines)) u ≡ bad k i → policyPart forms s ≡ bad k i
+      → line goalLine (goalRefusal forms) (goalAt (length forms) (length lines)) u ≡ bad (answer k i) → policyPart forms s ≡ bad (answer k i)
   unfolding policyPart _>>=_ andThen
   policy-3 c t lines u k i e f g = rw e (rw f (rw g refl))
 
@@ -192,11 +194,11 @@ rows numbers n = unpack formEntry n numbers
 
 pub clauses-stopped : (numbers : List ℕ) (n : ℕ) (s : List ℕ) (k : ℕ)
     → numberLineOf (shapedAs (countRefusal 0 mostPolicyLines) (number (valueOf (bytes "clauses=") s))) ≡ NumberLine.Refused k
-    → policyPart (unpack formEntry n numbers) s ≡ bad k (clausesAt n)
+    → policyPart (unpack formEntry n numbers) s ≡ bad (answer k (clausesAt n))
 clauses-stopped numbers n s k e =
     policy-1 (rows numbers n) s k (clausesAt n)
     (number-bad "clauses=" clausesRefusal (clausesAt (length (rows numbers n))) s k e ∙
-    ap (λ j. bad k (clausesAt j)) (unpack-length formEntry n numbers))
+    ap (λ j. bad (answer k (clausesAt j))) (unpack-length formEntry n numbers))
 
 -- The count of a policy's lines, the text behind it, and the classes of the formulas in a table, as the code has them.
 pub record Clauses-kept (numbers : List ℕ) (n : ℕ) (s : List ℕ) : Type 0 where
@@ -218,10 +220,10 @@ module _ {numbers : List ℕ} {n : ℕ} {s : List ℕ} (k : Clauses-kept numbers
   same-items : linesRead k ≡ many (clauseItem (rows numbers n)) (k .count) [] (k .rest)
   same-items = ap (λ item. many item (k .count) [] (k .rest)) (clause-items numbers n (k .small) (k .classes) (k .tabled))
 
-  pub lines-stopped : (x : Refusal) → sectionOf (length (k .rest)) (linesRead k) ≡ Section.Refused x → policyPart (unpack formEntry n numbers) s
-      ≡ bad (x .number) (x .place)
+  pub lines-stopped : (x : Returned) → sectionOf (length (k .rest)) (linesRead k) ≡ Section.Refused x → policyPart (unpack formEntry n numbers) s
+      ≡ bad (answerIs x)
   lines-stopped x m =
-      policy-2 (rows numbers n) s (k .count) (k .rest) (x .number) (x .place) first
+      policy-2 (rows numbers n) s (k .count) (k .rest) (x .refusal) (x .place) first
       (sym same-items ∙ section-lost (length (k .rest)) (linesRead k) x m)
 
   module _ (m : Section-kept lineEntry (length (k .rest)) (linesRead k)) where
@@ -249,13 +251,13 @@ module _ {numbers : List ℕ} {n : ℕ} {s : List ℕ} (k : Clauses-kept numbers
     lines-place = omega (arith, linesGot .place)
 
     pub goal-stopped : (j : ℕ) → goalAnswer (partFrom (m .at) (k .rest)) ≡ NumberLine.Refused j
-        → policyPart (unpack formEntry n numbers) s ≡ bad j (goalAt n (k .count))
+        → policyPart (unpack formEntry n numbers) s ≡ bad (answer j (goalAt n (k .count)))
     goal-stopped j e =
         let place : goalAt (length (rows numbers n)) (length (linesGot .things)) ≡ goalAt n (k .count) = omega
         (arith, many-lines, unpack-length formEntry n numbers) in
         policy-3 (rows numbers n) s (k .count) (k .rest) (linesGot .things) (linesGot .rest) j (goalAt n (k .count)) first (sym same-items ∙ linesGot .is)
         (number-bad "goal=" (goalRefusal (rows numbers n)) (goalAt (length (rows numbers n)) (length (linesGot .things))) (linesGot .rest) j
-        (goal-asked (NumberLine.Refused j) e) ∙ ap (λ h. bad j h) place)
+        (goal-asked (NumberLine.Refused j) e) ∙ ap (λ h. bad (answer j h)) place)
 
     module _ (goal : ℕ) (rest : List ℕ) (r : rest ≡ restOf (partFrom (m .at) (k .rest)))
         (e : goalAnswer (partFrom (m .at) (k .rest)) ≡ NumberLine.Number goal) where
@@ -289,7 +291,7 @@ module _ {numbers : List ℕ} {n : ℕ} {s : List ℕ} (k : Clauses-kept numbers
 
 -- The steps: a count, that many `step=` lines.
 module _ (formulas clauses : ℕ) (s : List ℕ) where
-  steps-1 : (k i : ℕ) → line stepsLine stepsRefusal (stepsAt formulas clauses) s ≡ bad k i → stepsPart formulas clauses s ≡ bad k i
+  steps-1 : (k i : ℕ) → line stepsLine stepsRefusal (stepsAt formulas clauses) s ≡ bad (answer k i) → stepsPart formulas clauses s ≡ bad (answer k i)
   unfolding stepsPart _>>=_ andThen
   steps-1 k i e = rw e refl
 
@@ -299,7 +301,7 @@ module _ (formulas clauses : ℕ) (s : List ℕ) where
   steps-2 c t e = rw e refl
 
   pub steps-stopped : (k : ℕ) → numberLineOf (shapedAs (countRefusal 1 mostSteps) (number (valueOf (bytes "steps=") s))) ≡ NumberLine.Refused k
-      → stepsPart formulas clauses s ≡ bad k (stepsAt formulas clauses)
+      → stepsPart formulas clauses s ≡ bad (answer k (stepsAt formulas clauses))
   steps-stopped k e = steps-1 k (stepsAt formulas clauses) (number-bad "steps=" stepsRefusal (stepsAt formulas clauses) s k e)
 
 -- The count of steps and the text behind it, as the code has them.
@@ -317,8 +319,8 @@ module _ {formulas clauses : ℕ} {s : List ℕ} (k : Steps-counted formulas cla
   whole = steps-2 formulas clauses s (k .count) (k .rest)
       (number-ok "steps=" stepsRefusal (stepsAt formulas clauses) s (k .rest) (k .count) (k .behind) (k .counted))
 
-  pub rows-stopped : (x : Refusal) → sectionOf (length (k .rest)) (rowsRead k) ≡ Section.Refused x → stepsPart formulas clauses s ≡ bad
-      (x .number) (x .place)
+  pub rows-stopped : (x : Returned) → sectionOf (length (k .rest)) (rowsRead k) ≡ Section.Refused x → stepsPart formulas clauses s ≡ bad
+      (answerIs x)
   rows-stopped x m = whole ∙ section-lost (length (k .rest)) (rowsRead k) x m
 
   module _ (m : Section-kept stepEntry (length (k .rest)) (rowsRead k)) where

@@ -9,6 +9,7 @@ use mathlib.Core.Option.{Option, none, some}
 use borrow.Author.Tests.{leb-true, le-leb, lt-leb, lt-ltb, le-ltb}
 use lib.Dec.{ltb, leb}
 use lib.ListN.{length, getD}
+use Rattle.scope.specs.Call.Answer.{answer}
 use Rattle.scope.specs.Tools.Tests.{never}
 use Rattle.scope.specs.Logic.Form.{both}
 use Rattle.scope.specs.File.Request.{Row}
@@ -150,7 +151,7 @@ module _ {A : Type 0} (l : Line A) (refusal : A → ℕ) (s v : List ℕ) (part 
   unfolding placed
   line-ok i a rest r e = by-value i ∙ rw (e, r) refl
 
-  line-bad : (i k : ℕ) → shapedAs refusal (l .shape .thing v) ≡ out k → line l refusal i s ≡ bad k i
+  line-bad : (i k : ℕ) → shapedAs refusal (l .shape .thing v) ≡ out k → line l refusal i s ≡ bad (answer k i)
   unfolding placed
   line-bad i k e = by-value i ∙ rw e refl
 
@@ -168,7 +169,7 @@ module _ (key : String) (refusal : ℕ → ℕ) (s v : List ℕ) (part : v ≡ v
       → line (numberLine key) refusal i s ≡ ok n rest
   value-ok i rest n r e = line-ok (numberLine key) refusal s v part no-number i n rest r (val-number (shapedAs refusal (number v)) n e)
 
-  pub value-bad : (i k : ℕ) → numberLineOf (shapedAs refusal (number v)) ≡ NumberLine.Refused k → line (numberLine key) refusal i s ≡ bad k i
+  pub value-bad : (i k : ℕ) → numberLineOf (shapedAs refusal (number v)) ≡ NumberLine.Refused k → line (numberLine key) refusal i s ≡ bad (answer k i)
   value-bad i k e = line-bad (numberLine key) refusal s v part no-number i k (out-number (shapedAs refusal (number v)) k e)
 
   pub value-behind : (n : ℕ) → numberLineOf (shapedAs refusal (number v)) ≡ NumberLine.Number n → Behind s (length v + (length (bytes key) + 1))
@@ -179,7 +180,7 @@ pub number-ok : (key : String) (refusal : ℕ → ℕ) (i : ℕ) (s rest : List 
 number-ok key refusal i s rest n r e = value-ok key refusal s (valueOf (bytes key) s) refl i rest n r e
 
 pub number-bad : (key : String) (refusal : ℕ → ℕ) (i : ℕ) (s : List ℕ) (k : ℕ)
-    → numberLineOf (shapedAs refusal (number (valueOf (bytes key) s))) ≡ NumberLine.Refused k → line (numberLine key) refusal i s ≡ bad k i
+    → numberLineOf (shapedAs refusal (number (valueOf (bytes key) s))) ≡ NumberLine.Refused k → line (numberLine key) refusal i s ≡ bad (answer k i)
 number-bad key refusal i s k e = value-bad key refusal s (valueOf (bytes key) s) refl i k e
 
 module _ (key : String) (kinds : List Kind) (refusal : Row → ℕ) (s v : List ℕ) (part : v ≡ valueOf (bytes key) s) (empty : rowIn kinds [] ≡ none) where
@@ -187,7 +188,7 @@ module _ (key : String) (kinds : List Kind) (refusal : Row → ℕ) (s v : List 
       → line (rowLine key kinds) refusal i s ≡ ok (row k l r) rest
   row-ok i rest k l r is e = line-ok (rowLine key kinds) refusal s v part empty i (row k l r) rest is e
 
-  pub row-bad : (i k : ℕ) → shapedAs refusal (rowIn kinds v) ≡ out k → line (rowLine key kinds) refusal i s ≡ bad k i
+  pub row-bad : (i k : ℕ) → shapedAs refusal (rowIn kinds v) ≡ out k → line (rowLine key kinds) refusal i s ≡ bad (answer k i)
   row-bad i k e = line-bad (rowLine key kinds) refusal s v part empty i k e
 
   pub row-behind : (k l r : ℕ) → shapedAs refusal (rowIn kinds v) ≡ val (row k l r) → Behind s (length v + (length (bytes key) + 1))

@@ -7,6 +7,7 @@ use mathlib.Core.Bool.{Bool, true, false}
 use lib.ListN.{length, replicate}
 use lib.Dec.{leb}
 use borrow.Author.Tests.{leb-true, le-leb, lt-leb}
+use Rattle.scope.specs.Call.Answer.{answer}
 use Rattle.scope.specs.Tools.Tests.{never}
 use Rattle.scope.specs.Logic.Form.{both}
 use Rattle.scope.specs.File.Request.{Row, Request}
@@ -15,8 +16,9 @@ use Rattle.scope.specs.Limits.{mostBytes, mostFormulas, mostPolicyLines, mostSt
 use Rattle.scope.specs.File.Reader.{Outcome, read, refused, ended, readRequest}
 use Rattle.scope.specs.Call.Tables.{formEntry, lineEntry, stepEntry, table, unpack, hasRoom}
 use Rattle.scope.specs.Call.Calls.{reading, requestIn, formTableAfter, lineTableAfter, stepTableAfter}
+use Rattle.common.specs.Answers.{answerOf, answerIs}
 use Rattle.common.specs.declared.Counts.{Counts}
-use Rattle.common.specs.declared.Refusal.{Refusal}
+use Rattle.common.specs.declared.Answer.{Answer as Returned}
 use Rattle.reader.specs.Sections.{Formulas, PolicyRead, formulasPart, policyPart, stepsPart}
 use Rattle.reader.specs.Answers.{readingOf, formulasOf, policySection, stepSection}
 use Rattle.reader.specs.Many.{tail-length}
@@ -29,19 +31,19 @@ use Rattle.reader.specs.declared.Policy.the-variants as Policy
 use Rattle.reader.specs.declared.Steps.the-variants as Steps
 
 -- Refused or read, an outcome is one of the two.
-outcome-never : {X : Type 0} (o : Outcome) (k i : ℕ) (q : Request) → o ≡ refused k i → o ≡ read q → X
+outcome-never : {X : Type 0} (o : Outcome) (k i : ℕ) (q : Request) → o ≡ refused (answer k i) → o ≡ read q → X
 outcome-never o k i q e f = never cc
 
 same-request : (o : Outcome) (p q : Request) → o ≡ read p → o ≡ read q → p ≡ q
 same-request o p q e f = cc
 
 module _ (t : List ℕ) where
-  read-refused : (k i : ℕ) → sections t ≡ bad k i → readRequest t ≡ refused k i
+  read-refused : (k i : ℕ) → sections t ≡ bad (answer k i) → readRequest t ≡ refused (answer k i)
   unfolding readRequest ended
   read-refused k i e = rw (request-sections t, e) refl
 
-  read-over : (q : Request) (v : List ℕ) → sections t ≡ ok q v → 0 < length v → readRequest t ≡ refused 6
-      (endAt (length (q .forms)) (length (q .lines)) (length (q .steps)))
+  read-over : (q : Request) (v : List ℕ) → sections t ≡ ok q v → 0 < length v → readRequest t ≡ refused (answer 6
+      (endAt (length (q .forms)) (length (q .lines)) (length (q .steps))))
   unfolding readRequest ended
   read-over q [] e h = absurd (omega arith)
   read-over q (b ∷ v) e h = rw (request-sections t, e) refl
@@ -51,17 +53,17 @@ module _ (t : List ℕ) where
   read-whole q [] e h = rw (request-sections t, e) refl
   read-whole q (b ∷ v) e h = absurd (omega arith)
 
-  whole-1 : (k i : ℕ) → formulasPart t ≡ bad k i → sections t ≡ bad k i
+  whole-1 : (k i : ℕ) → formulasPart t ≡ bad (answer k i) → sections t ≡ bad (answer k i)
   unfolding sections _>>=_ andThen
   whole-1 k i a = rw a refl
 
   module _ (f : Formulas) (s : List ℕ) (a : formulasPart t ≡ ok f s) where
-    whole-2 : (k i : ℕ) → policyPart (f .forms) s ≡ bad k i → sections t ≡ bad k i
+    whole-2 : (k i : ℕ) → policyPart (f .forms) s ≡ bad (answer k i) → sections t ≡ bad (answer k i)
     unfolding sections _>>=_ andThen
     whole-2 k i b = rw a (rw b refl)
 
     module _ (p : PolicyRead) (u : List ℕ) (b : policyPart (f .forms) s ≡ ok p u) where
-      whole-3 : (k i : ℕ) → stepsPart (length (f .forms)) (length (p .lines)) u ≡ bad k i → sections t ≡ bad k i
+      whole-3 : (k i : ℕ) → stepsPart (length (f .forms)) (length (p .lines)) u ≡ bad (answer k i) → sections t ≡ bad (answer k i)
       unfolding sections _>>=_ andThen
       whole-3 k i c = rw a (rw b (rw c refl))
 
@@ -70,8 +72,8 @@ module _ (t : List ℕ) where
       unfolding sections _>>=_ andThen
       whole-4 rows v c = rw a (rw b (rw c refl))
 
-  pub formulas-end : (x : Refusal) → formulasOf (length t) (formulasPart t) ≡ Head.Refused x → readRequest t ≡ refused (x .number) (x .place)
-  formulas-end x e = read-refused (x .number) (x .place) (whole-1 (x .number) (x .place) (formulas-lost (length t) (formulasPart t) x e))
+  pub formulas-end : (x : Returned) → formulasOf (length t) (formulasPart t) ≡ Head.Refused x → readRequest t ≡ refused (answerIs x)
+  formulas-end x e = read-refused (x .refusal) (x .place) (whole-1 (x .refusal) (x .place) (formulas-lost (length t) (formulasPart t) x e))
 
 -- The formulas, the policy and the steps of a text as the calls that read them left them: the counts, where the next begins, and the table.
 pub record Formulas-kept (t : List ℕ) : Type 0 where
@@ -135,11 +137,11 @@ module _ {t : List ℕ} (k : Formulas-kept t) where
   same-policy : policyRead k ≡ policyPart (fg .forms) (fg .rest)
   same-policy = λ i. policyPart (rows-are i) (second i)
 
-  pub policy-end : (x : Refusal) → policySection (length (behindFormulas k)) (policyRead k) ≡ Policy.Refused x → readRequest t
-      ≡ refused (x .number) (x .place)
+  pub policy-end : (x : Returned) → policySection (length (behindFormulas k)) (policyRead k) ≡ Policy.Refused x → readRequest t
+      ≡ refused (answerIs x)
   policy-end x d =
-      read-refused t (x .number) (x .place)
-      (whole-2 t formulasGot (fg .rest) (fg .is) (x .number) (x .place)
+      read-refused t (x .refusal) (x .place)
+      (whole-2 t formulasGot (fg .rest) (fg .is) (x .refusal) (x .place)
       (sym same-policy ∙ policy-lost (length (behindFormulas k)) (policyRead k) x d))
 
   module _ (p : Policy-kept k) where
@@ -160,11 +162,11 @@ module _ {t : List ℕ} (k : Formulas-kept t) where
     same-steps : stepsRead p ≡ stepsPart (length (fg .forms)) (length (pg .lines)) (pg .rest)
     same-steps = λ i. stepsPart (fg .count i) (pg .count i) (third i)
 
-    pub steps-end : (x : Refusal) → stepSection (length (behindPolicy p)) (stepsRead p) ≡ Steps.Refused x → readRequest t
-        ≡ refused (x .number) (x .place)
+    pub steps-end : (x : Returned) → stepSection (length (behindPolicy p)) (stepsRead p) ≡ Steps.Refused x → readRequest t
+        ≡ refused (answerIs x)
     steps-end x h =
-        read-refused t (x .number) (x .place)
-        (whole-3 t formulasGot (fg .rest) (fg .is) policyGot (pg .rest) (sym same-policy ∙ pg .is) (x .number) (x .place)
+        read-refused t (x .refusal) (x .place)
+        (whole-3 t formulasGot (fg .rest) (fg .is) policyGot (pg .rest) (sym same-policy ∙ pg .is) (x .refusal) (x .place)
         (sym same-steps ∙ steps-lost (length (behindPolicy p)) (stepsRead p) x h))
 
     module _ (s : Steps-kept p) where
@@ -183,10 +185,10 @@ module _ {t : List ℕ} (k : Formulas-kept t) where
       over-short = tail-length (sg .rest) (behindPolicy p)
           (steps-ends (k .count) (p .count) .ends (behindPolicy p) (sg .rows) (sg .rest) (sg .is))
 
-      pub bytes-after : s .at < length (behindPolicy p) → readRequest t ≡ refused 6 (endAt (k .count) (p .count) (s .count))
+      pub bytes-after : s .at < length (behindPolicy p) → readRequest t ≡ refused (answer 6 (endAt (k .count) (p .count) (s .count)))
       bytes-after l =
           read-over t joined (sg .rest) all-lines (omega (arith, sg .place)) ∙
-          (λ i. refused 6 (endAt (sym (fg .count) i) (sym (pg .count) i) (sym (sg .count) i)))
+          (λ i. refused (answer 6 (endAt (sym (fg .count) i) (sym (pg .count) i) (sym (sg .count) i))))
 
       abbrev counts : Counts
       counts = record { principals = k .principals; atoms = k .atoms; formulas = k .count; lines = p .count; goal = p .goal; steps = s .count }
@@ -222,28 +224,28 @@ module _ {t : List ℕ} (k : Formulas-kept t) where
             ),
           )
 
-pub refused-answer : (o : Outcome) (x : Refusal) → o ≡ refused (x .number) (x .place) → Reading.Refused x ≡ readingOf o
+pub refused-answer : (o : Outcome) (x : Returned) → o ≡ refused (answerIs x) → Reading.Refused x ≡ readingOf o
 unfolding readingOf
 refused-answer o x e = rw e refl
 
 -- A refused text answers so, and says nothing of the tables.
-pub refused-all : {A B C : Request → Type 0} (o : Outcome) (x y : Refusal) → y ≡ x → o ≡ refused (x .number) (x .place)
+pub refused-all : {A B C : Request → Type 0} (o : Outcome) (x y : Returned) → y ≡ x → o ≡ refused (answerIs x)
     → (Reading.Refused y ≡ readingOf o) ×
     (((q : Request) → o ≡ read q → A q) × (((q : Request) → o ≡ read q → B q) × ((q : Request) → o ≡ read q → C q)))
 refused-all o x y r e = (
   ap Reading.Refused r ∙ refused-answer o x e,
   (
-    (λ q z. outcome-never o (x .number) (x .place) q e z),
-    ((λ q z. outcome-never o (x .number) (x .place) q e z), (λ q z. outcome-never o (x .number) (x .place) q e z)),
+    (λ q z. outcome-never o (x .refusal) (x .place) q e z),
+    ((λ q z. outcome-never o (x .refusal) (x .place) q e z), (λ q z. outcome-never o (x .refusal) (x .place) q e z)),
   ),
 )
 
-pub refused-outcome : (o : Outcome) (x : Refusal) → readingOf o ≡ Reading.Refused x → o ≡ refused (x .number) (x .place)
+pub refused-outcome : (o : Outcome) (x : Returned) → readingOf o ≡ Reading.Refused x → o ≡ refused (answerIs x)
 unfolding readingOf
 refused-outcome (read q) x e = never cc
-refused-outcome (refused k i) x e =
-    let f : record { number = k; place = i } ≡ x = cc in
-    ap (λ (y : Refusal). refused (y .number) (y .place)) f
+refused-outcome (refused (answer k i)) x e =
+    let f : answerOf (answer k i) ≡ x = cc in
+    ap (λ (y : Returned). refused (answerIs y)) f
 
 pub record Read-outcome (o : Outcome) : Type 0 where
   pub request : Request
@@ -252,15 +254,15 @@ pub record Read-outcome (o : Outcome) : Type 0 where
 pub read-outcome : (o : Outcome) (c : Counts) → readingOf o ≡ Reading.Read c → Read-outcome o
 unfolding readingOf
 read-outcome (read q) c e = record { request = q; is = refl }
-read-outcome (refused k i) c e = never cc
+read-outcome (refused (answer k i)) c e = never cc
 
 -- 'Order: 13, 1, then lines in order.'
 module _ (forms lines steps : ℕ) (s : List ℕ) where
-  pub no-room : hasRoom forms lines steps ≡ false → reading forms lines steps s ≡ refused 13 0
+  pub no-room : hasRoom forms lines steps ≡ false → reading forms lines steps s ≡ refused (answer 13 0)
   unfolding reading
   no-room e = rw e refl
 
-  pub too-long : hasRoom forms lines steps ≡ true → mostBytes < length s → reading forms lines steps s ≡ refused 1 0
+  pub too-long : hasRoom forms lines steps ≡ true → mostBytes < length s → reading forms lines steps s ≡ refused (answer 1 0)
   unfolding reading
   too-long e h = rw (e, lt-leb (length s) mostBytes h) refl
 
@@ -270,15 +272,15 @@ module _ (forms lines steps : ℕ) (s : List ℕ) where
 
 -- The tables andThen a refusal, and andThen a request was read.
 module _ (len : ℕ) (o : Outcome) where
-  forms-zero : (k i : ℕ) → o ≡ refused k i → replicate len 0 ≡ formTableAfter len o
+  forms-zero : (k i : ℕ) → o ≡ refused (answer k i) → replicate len 0 ≡ formTableAfter len o
   unfolding formTableAfter requestIn
   forms-zero k i e = rw e (sym (table-none formEntry len))
 
-  lines-zero : (k i : ℕ) → o ≡ refused k i → replicate len 0 ≡ lineTableAfter len o
+  lines-zero : (k i : ℕ) → o ≡ refused (answer k i) → replicate len 0 ≡ lineTableAfter len o
   unfolding lineTableAfter requestIn
   lines-zero k i e = rw e (sym (table-none lineEntry len))
 
-  steps-zero : (k i : ℕ) → o ≡ refused k i → replicate len 0 ≡ stepTableAfter len o
+  steps-zero : (k i : ℕ) → o ≡ refused (answer k i) → replicate len 0 ≡ stepTableAfter len o
   unfolding stepTableAfter requestIn
   steps-zero k i e = rw e (sym (table-none stepEntry len))
 
@@ -303,11 +305,11 @@ pub record Cleared (forms lines steps : ℕ) : Type 0 where
   pub linesClear : lineTable ≡ replicate lines 0
   pub stepsClear : stepTable ≡ replicate steps 0
 
-pub tables-zero : {forms lines steps : ℕ} (k : Cleared forms lines steps) (o : Outcome) (x : Refusal) → o ≡ refused (x .number) (x .place)
+pub tables-zero : {forms lines steps : ℕ} (k : Cleared forms lines steps) (o : Outcome) (x : Returned) → o ≡ refused (answerIs x)
     → (k .formTable ≡ formTableAfter forms o) × ((k .lineTable ≡ lineTableAfter lines o) × (k .stepTable ≡ stepTableAfter steps o))
 tables-zero {forms} {lines} {steps} k o x e = (
-  k .formsClear ∙ forms-zero forms o (x .number) (x .place) e,
-  (k .linesClear ∙ lines-zero lines o (x .number) (x .place) e, k .stepsClear ∙ steps-zero steps o (x .number) (x .place) e),
+  k .formsClear ∙ forms-zero forms o (x .refusal) (x .place) e,
+  (k .linesClear ∙ lines-zero lines o (x .refusal) (x .place) e, k .stepsClear ∙ steps-zero steps o (x .refusal) (x .place) e),
 )
 
 -- Room for the largest counts.

@@ -6,6 +6,7 @@ use native.Mathlib.Omega.{arith}
 use mathlib.Core.Path.{_≡_, refl, ap, sym, subst, _∙_}
 use mathlib.Core.List.{List, [], _∷_, _++_}
 use lib.ListN.{length, set, replicate, length-append, length-set}
+use Rattle.scope.specs.Call.Answer.{answer}
 use Rattle.scope.specs.File.Bytes.{bytes}
 use Rattle.scope.specs.File.Number.{number}
 use Rattle.scope.specs.File.Request.{Row}
@@ -19,7 +20,7 @@ use Rattle.scope.specs.File.Reader.{formItem, stepItem}
 use Rattle.classes.specs.Class.{policyIn}
 use Rattle.lines.specs.Parts.{valueOf, restOf}
 use Rattle.lines.specs.Values.{Behind}
-use Rattle.common.specs.declared.Refusal.{Refusal}
+use Rattle.common.specs.declared.Answer.{Answer as Returned}
 use Rattle.steps.specs.declared.Step.{Step}
 use Rattle.steps.specs.declared.Pair.{Pair}
 use Rattle.steps.specs.Steps.{pairOf}
@@ -44,7 +45,7 @@ rest-short s rest e = omega (arith, ap length e, tail-length (restOf s) s (rest-
 
 -- The answer of a section, and what it says of the things read.
 module _ {A : Type 0} (n : ℕ) (r : Read (List A)) where
-  section-refused : {X : List A → List ℕ → Type 0} (k i : ℕ) → r ≡ bad k i → (x : Refusal) → x ≡ refusalIs k i
+  section-refused : {X : List A → List ℕ → Type 0} (k i : ℕ) → r ≡ bad (answer k i) → (x : Returned) → x ≡ refusalIs k i
       → (Section.Refused x ≡ sectionOf n r) × ((xs : List A) (rest : List ℕ) → r ≡ ok xs rest → X xs rest)
   unfolding sectionOf
   section-refused k i e x d = (ap Section.Refused d ∙ rw e refl, λ xs rest f. never-both r k i xs rest e f)
@@ -92,7 +93,7 @@ module _ {A : Type 0} (entry : Entry A) (item : List A → Reader A) (n : ℕ) (
           let f : n - i ≡ suc (n - (i + 1)) = omega arith in
           k .whole ∙ ap (λ m. onto (k .before) (many item m (k .before) rest)) f
 
-      turn-stops : {X : List A → List ℕ → Type 0} (j place : ℕ) → item (k .before) rest ≡ bad j place → (x : Refusal) → x ≡ refusalIs j place
+      turn-stops : {X : List A → List ℕ → Type 0} (j place : ℕ) → item (k .before) rest ≡ bad (answer j place) → (x : Returned) → x ≡ refusalIs j place
           → (Section.Refused x ≡ sectionOf (length text) (many item n [] text)) ×
           ((xs : List A) (over : List ℕ) → many item n [] text ≡ ok xs over → X xs over)
       turn-stops j place e x d =
@@ -131,7 +132,7 @@ module _ (principals atoms : ℕ) {n : ℕ} {text : List ℕ} {len : ℕ} {numbe
       → shapedAs (rowRefusal formKinds principals atoms (length (k .before))) (rowIn formKinds (q .value)) ≡ a
   at-length a e = subst (λ j. shapedAs (rowRefusal formKinds principals atoms j) (rowIn formKinds (q .value)) ≡ a) (sym (k .count)) e
 
-  pub form-stops : {X : List Row → List ℕ → Type 0} (j : ℕ) → q .answer ≡ RowLine.Refused j → (x : Refusal) → x ≡ refusalIs j (formAt i)
+  pub form-stops : {X : List Row → List ℕ → Type 0} (j : ℕ) → q .answer ≡ RowLine.Refused j → (x : Returned) → x ≡ refusalIs j (formAt i)
       → (Section.Refused x ≡ sectionOf (length text) (many (formItem principals atoms) n [] text)) ×
       ((rows : List Row) (over : List ℕ) → many (formItem principals atoms) n [] text ≡ ok rows over → X rows over)
   unfolding formRefusal
@@ -139,7 +140,7 @@ module _ (principals atoms : ℕ) {n : ℕ} {text : List ℕ} {len : ℕ} {numbe
       turn-stops formEntry (formItem principals atoms) n text k h j (formAt i)
       (row-bad "form=" formKinds (formRefusal principals atoms (k .before)) s (q .value) (q .part) no-form (formAt (length (k .before))) j
       (at-length (out j) (out-row (shapedAs (rowRefusal formKinds principals atoms i) (rowIn formKinds (q .value))) j (sym (q .about) ∙ e))) ∙
-      ap (λ m. bad j (formAt m)) (k .count)) x d
+      ap (λ m. bad (answer j (formAt m))) (k .count)) x d
 
   module _ (a l r : ℕ) (e : q .answer ≡ RowLine.Row a l r) where
     form-is : shapedAs (rowRefusal formKinds principals atoms i) (rowIn formKinds (q .value)) ≡ val (row a l r)
@@ -165,14 +166,14 @@ clauseAsked classes formulas v = numberLineOf (shapedAs (classRefusal policyIn c
 module _ (classes : List ℕ) (formulas : ℕ) {n : ℕ} {text : List ℕ} {len : ℕ} {numbers s : List ℕ} {i : ℕ}
     (k : Turns lineEntry (classedItem classes formulas) n text len numbers s i) (h : i < n)
     (q : Line-asked "clause=" (clauseAsked classes formulas) s) where
-  pub clause-stops : {X : List ℕ → List ℕ → Type 0} (j : ℕ) → q .answer ≡ NumberLine.Refused j → (x : Refusal)
+  pub clause-stops : {X : List ℕ → List ℕ → Type 0} (j : ℕ) → q .answer ≡ NumberLine.Refused j → (x : Returned)
       → x ≡ refusalIs j (clauseAt formulas i)
       → (Section.Refused x ≡ sectionOf (length text) (many (classedItem classes formulas) n [] text)) ×
       ((lines : List ℕ) (over : List ℕ) → many (classedItem classes formulas) n [] text ≡ ok lines over → X lines over)
   clause-stops j e x d =
       turn-stops lineEntry (classedItem classes formulas) n text k h j (clauseAt formulas i)
       (value-bad "clause=" (classRefusal policyIn classes formulas) s (q .value) (q .part) (clauseAt formulas (length (k .before))) j
-      (sym (q .about) ∙ e) ∙ ap (λ m. bad j (clauseAt formulas m)) (k .count)) x d
+      (sym (q .about) ∙ e) ∙ ap (λ m. bad (answer j (clauseAt formulas m))) (k .count)) x d
 
   module _ (f : ℕ) (e : q .answer ≡ NumberLine.Number f) where
     pub clause-behind : Behind s (length (q .value) + 8)
@@ -192,7 +193,7 @@ stepAsked v = stepLineOf (shapedAs stepRefusal (rowIn stepKinds v))
 
 module _ (formulas clauses : ℕ) {n : ℕ} {text : List ℕ} {len : ℕ} {numbers s : List ℕ} {i : ℕ}
     (k : Turns stepEntry (stepItem formulas clauses) n text len numbers s i) (h : i < n) (q : Line-asked "step=" stepAsked s) where
-  pub step-stops : {X : List Row → List ℕ → Type 0} (j : ℕ) → q .answer ≡ StepLine.Refused j → (x : Refusal)
+  pub step-stops : {X : List Row → List ℕ → Type 0} (j : ℕ) → q .answer ≡ StepLine.Refused j → (x : Returned)
       → x ≡ refusalIs j (stepAt formulas clauses (suc i))
       → (Section.Refused x ≡ sectionOf (length text) (many (stepItem formulas clauses) n [] text)) ×
       ((rows : List Row) (over : List ℕ) → many (stepItem formulas clauses) n [] text ≡ ok rows over → X rows over)
@@ -200,7 +201,7 @@ module _ (formulas clauses : ℕ) {n : ℕ} {text : List ℕ} {len : ℕ} {numbe
       let place : stepAt formulas clauses (suc (length (k .before))) ≡ stepAt formulas clauses (suc i) = omega (arith, k .count) in
       turn-stops stepEntry (stepItem formulas clauses) n text k h j (stepAt formulas clauses (suc i))
       (row-bad "step=" stepKinds stepRefusal s (q .value) (q .part) no-step (stepAt formulas clauses (suc (length (k .before)))) j
-      (out-step (shapedAs stepRefusal (rowIn stepKinds (q .value))) j (sym (q .about) ∙ e)) ∙ ap (λ m. bad j m) place) x d
+      (out-step (shapedAs stepRefusal (rowIn stepKinds (q .value))) j (sym (q .about) ∙ e)) ∙ ap (λ m. bad (answer j m)) place) x d
 
   module _ (x : Step) (e : q .answer ≡ StepLine.Step x) where
     found : Step-row (rowIn stepKinds (q .value)) x
@@ -221,22 +222,22 @@ module _ (formulas clauses : ℕ) {n : ℕ} {text : List ℕ} {len : ℕ} {numbe
 
 -- The first four lines.
 module _ (s : List ℕ) where
-  pub head-1 : (k i : ℕ) → line versionLine versionRefusal versionAt s ≡ bad k i → headPart s ≡ bad k i
+  pub head-1 : (k i : ℕ) → line versionLine versionRefusal versionAt s ≡ bad (answer k i) → headPart s ≡ bad (answer k i)
   unfolding headPart _>>=_ andThen
   head-1 k i a = rw a refl
 
   module _ (v : ℕ) (s₁ : List ℕ) (a : line versionLine versionRefusal versionAt s ≡ ok v s₁) where
-    pub head-2 : (k i : ℕ) → line principalsLine principalsRefusal principalsAt s₁ ≡ bad k i → headPart s ≡ bad k i
+    pub head-2 : (k i : ℕ) → line principalsLine principalsRefusal principalsAt s₁ ≡ bad (answer k i) → headPart s ≡ bad (answer k i)
     unfolding headPart _>>=_ andThen
     head-2 k i b = rw a (rw b refl)
 
     module _ (p : ℕ) (s₂ : List ℕ) (b : line principalsLine principalsRefusal principalsAt s₁ ≡ ok p s₂) where
-      pub head-3 : (k i : ℕ) → line atomsLine atomsRefusal atomsAt s₂ ≡ bad k i → headPart s ≡ bad k i
+      pub head-3 : (k i : ℕ) → line atomsLine atomsRefusal atomsAt s₂ ≡ bad (answer k i) → headPart s ≡ bad (answer k i)
       unfolding headPart _>>=_ andThen
       head-3 k i c = rw a (rw b (rw c refl))
 
       module _ (n : ℕ) (s₃ : List ℕ) (c : line atomsLine atomsRefusal atomsAt s₂ ≡ ok n s₃) where
-        pub head-4 : (k i : ℕ) → line formulasLine formulasRefusal formulasAt s₃ ≡ bad k i → headPart s ≡ bad k i
+        pub head-4 : (k i : ℕ) → line formulasLine formulasRefusal formulasAt s₃ ≡ bad (answer k i) → headPart s ≡ bad (answer k i)
         unfolding headPart _>>=_ andThen
         head-4 k i d = rw a (rw b (rw c (rw d refl)))
 
@@ -246,7 +247,7 @@ module _ (s : List ℕ) where
         head-5 f s₄ d = rw a (rw b (rw c (rw d refl)))
 
 module _ (n : ℕ) (r : Read Counted) where
-  pub head-refused : (k i : ℕ) → r ≡ bad k i → Head.Refused (refusalIs k i) ≡ headOf n r
+  pub head-refused : (k i : ℕ) → r ≡ bad (answer k i) → Head.Refused (refusalIs k i) ≡ headOf n r
   unfolding headOf
   head-refused k i e = rw e refl
 

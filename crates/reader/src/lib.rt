@@ -7,9 +7,11 @@ ghost use Rattle.scope.specs.File.Request.{Request};
 ghost use Rattle.scope.specs.File.Reader.{read, readRequest};
 ghost use Rattle.scope.specs.Call.Tables.{table, formEntry, lineEntry, stepEntry};
 ghost use Rattle.scope.specs.Call.Calls.{reading, formTableAfter, lineTableAfter, stepTableAfter};
-ghost use Rattle.reader.specs.Answers.{refusalIs, numberRefusal, rowRefused, stepRefused, sectionRefused, headRefused, policyRefused, stepsRefused, readingOf};
+ghost use Rattle.scope.specs.Call.Answer.{answer};
+ghost use Rattle.common.specs.Answers.{answerOf};
+ghost use Rattle.reader.specs.Answers.{numberRefusal, rowRefused, stepRefused, sectionRefused, headRefused, policyRefused, stepsRefused, readingOf};
+use common::Answer;
 use common::Counts;
-use common::Refusal;
 use steps::Step;
 
 mod first_lines;
@@ -19,7 +21,7 @@ mod step_lines;
 
 pub enum Reading {
     Read(Counts),
-    Refused(Refusal),
+    Refused(Answer),
 }
 
 // The number that a line has, or its refusal.
@@ -43,100 +45,109 @@ enum StepLine {
 // Lines one after the other: how many bytes they take, or the first refusal.
 enum Section {
     Read(usize),
-    Refused(Refusal),
+    Refused(Answer),
 }
 
 // Principals, atoms, formulas, and the bytes up to there.
 enum Head {
     Read(u16, u16, u16, usize),
-    Refused(Refusal),
+    Refused(Answer),
 }
 
 // Policy lines, goal, and the bytes up to there.
 enum Policy {
     Read(u16, u16, usize),
-    Refused(Refusal),
+    Refused(Answer),
 }
 
 // Steps, and the bytes up to there.
 enum Steps {
     Read(u16, usize),
-    Refused(Refusal),
+    Refused(Answer),
 }
 
 // The refusal of a line at its place.
-fn number_refused(line: NumberLine, place: u32) -> Refusal
-    ensures { λ r. ⌜ r ≡ refusalIs (numberRefusal line) place ⌝ }
+fn number_refused(line: NumberLine, place: u32) -> Answer
+    ensures { λ r. ⌜ r ≡ answerOf (answer (numberRefusal line) place) ⌝ }
 {
     match line {
-        NumberLine::Number(_) => Refusal { number: 0, place },
-        NumberLine::Refused(number) => Refusal { number, place },
+        NumberLine::Number(_) => Answer { refusal: 0, place },
+        NumberLine::Refused(number) => Answer {
+            refusal: number,
+            place,
+        },
     }
 }
 
-fn row_refused(line: RowLine, place: u32) -> Refusal
-    ensures { λ r. ⌜ r ≡ refusalIs (rowRefused line) place ⌝ }
+fn row_refused(line: RowLine, place: u32) -> Answer
+    ensures { λ r. ⌜ r ≡ answerOf (answer (rowRefused line) place) ⌝ }
 {
     match line {
-        RowLine::Row(_, _, _) => Refusal { number: 0, place },
-        RowLine::Refused(number) => Refusal { number, place },
+        RowLine::Row(_, _, _) => Answer { refusal: 0, place },
+        RowLine::Refused(number) => Answer {
+            refusal: number,
+            place,
+        },
     }
 }
 
-fn step_refused(line: StepLine, place: u32) -> Refusal
-    ensures { λ r. ⌜ r ≡ refusalIs (stepRefused line) place ⌝ }
+fn step_refused(line: StepLine, place: u32) -> Answer
+    ensures { λ r. ⌜ r ≡ answerOf (answer (stepRefused line) place) ⌝ }
 {
     match line {
-        StepLine::Step(_) => Refusal { number: 0, place },
-        StepLine::Refused(number) => Refusal { number, place },
+        StepLine::Step(_) => Answer { refusal: 0, place },
+        StepLine::Refused(number) => Answer {
+            refusal: number,
+            place,
+        },
     }
 }
 
-fn section_refused(section: Section) -> Refusal
+fn section_refused(section: Section) -> Answer
     ensures { λ r. ⌜ r ≡ sectionRefused section ⌝ }
 {
     match section {
-        Section::Read(_) => Refusal {
-            number: 0,
+        Section::Read(_) => Answer {
+            refusal: 0,
             place: 0,
         },
-        Section::Refused(refusal) => refusal,
+        Section::Refused(answer) => answer,
     }
 }
 
-fn head_refused(head: Head) -> Refusal
+fn head_refused(head: Head) -> Answer
     ensures { λ r. ⌜ r ≡ headRefused head ⌝ }
 {
     match head {
-        Head::Read(_, _, _, _) => Refusal {
-            number: 0,
+        Head::Read(_, _, _, _) => Answer {
+            refusal: 0,
             place: 0,
         },
-        Head::Refused(refusal) => refusal,
+        Head::Refused(answer) => answer,
     }
 }
 
-fn policy_refused(policy: Policy) -> Refusal
+fn policy_refused(policy: Policy) -> Answer
     ensures { λ r. ⌜ r ≡ policyRefused policy ⌝ }
 {
     match policy {
-        Policy::Read(_, _, _) => Refusal {
-            number: 0,
+        Policy::Read(_, _, _) => Answer {
+            refusal: 0,
             place: 0,
         },
-        Policy::Refused(refusal) => refusal,
+        Policy::Refused(answer) => answer,
     }
 }
 
-fn steps_refused(steps: Steps) -> Refusal
+fn steps_refused(steps: Steps) -> Answer
     ensures { λ r. ⌜ r ≡ stepsRefused steps ⌝ }
 {
     match steps {
-        Steps::Read(_, _) => Refusal {
-            number: 0,
+        Steps::Read(_, _) => Answer {
+            refusal: 0,
             place: 0,
         },
-        Steps::Refused(refusal) => refusal,
+        Steps::Refused(answer) => answer,
     }
 }
 
@@ -174,7 +185,7 @@ fn read_parts(text: &[u8], forms: &mut [u16], policy: &mut [u16], steps: &mut [u
     };
     if end < third.len() {
         let place = common::end_at(formulas, clauses, count);
-        return Reading::Refused(Refusal { number: 6, place });
+        return Reading::Refused(Answer { refusal: 6, place });
     }
     Reading::Read(Counts {
         principals,
@@ -203,14 +214,14 @@ pub fn read_request(
     zero_table(steps);
     let room = common::has_room(forms.len(), policy.len(), steps.len());
     if !room {
-        return Reading::Refused(Refusal {
-            number: 13,
+        return Reading::Refused(Answer {
+            refusal: 13,
             place: 0,
         });
     }
     if common::MOST_BYTES < text.len() {
-        return Reading::Refused(Refusal {
-            number: 1,
+        return Reading::Refused(Answer {
+            refusal: 1,
             place: 0,
         });
     }

@@ -5,18 +5,19 @@ use Rattle.scope.specs.Call.Answer.{Answer, answer}
 use Rattle.scope.specs.Call.Checked.{firstMet}
 use Rattle.scope.specs.Call.Tables.{Lent}
 use Rattle.common.specs.declared.Counts.{Counts}
+use Rattle.common.specs.Answers.{answerOf, answerIs}
 use Rattle.tables.specs.declared.Checked.{Checked}
 use Rattle.tables.specs.declared.Checked.the-variants.{Fine, Refused}
 
 -- Document 01's number and place for each case.
 unfoldable pub answerIn : Checked → Answer
 answerIn Fine = answer 0 0
-answerIn (Refused r) = answer (r .number) (r .place)
+answerIn (Refused r) = answerIs r
 
 -- The case for a number and a place: 0 is no refusal.
 unfoldable pub checkedOf : Answer → Checked
 checkedOf (answer zero place) = Fine
-checkedOf (answer (suc k) place) = Refused record { number = suc k; place = place }
+checkedOf (answer (suc k) place) = Refused (answerOf (answer (suc k) place))
 
 -- 'The first metIn is the answer, with no other given.'
 unfoldable pub metIn : List Answer → Checked

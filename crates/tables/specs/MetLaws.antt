@@ -9,12 +9,13 @@ use lib.Seq.{take-suc, split-at, take-length}
 use Rattle.scope.specs.Tools.Tests.{never}
 use Rattle.scope.specs.Call.Answer.{Answer, answer}
 use Rattle.scope.specs.Call.Checked.{firstMet}
-use Rattle.common.specs.declared.Refusal.{Refusal}
+use Rattle.common.specs.Answers.{answerOf}
+use Rattle.common.specs.declared.Answer.{Answer as Returned}
 use Rattle.tables.specs.declared.Checked.{Checked}
 use Rattle.tables.specs.declared.Checked.the-variants.{Fine, Refused}
 use Rattle.tables.specs.Met.{answerIn, checkedOf, metIn}
 
-pub refused-at : (k place : ℕ) → (k ≡ 0 → ⊥) → Refused record { number = k; place = place } ≡ checkedOf (answer k place)
+pub refused-at : (k place : ℕ) → (k ≡ 0 → ⊥) → Refused (answerOf (answer k place)) ≡ checkedOf (answer k place)
 unfolding checkedOf
 refused-at zero place h = absurd (h refl)
 refused-at (suc k) place h = refl
@@ -25,14 +26,14 @@ met-fine [] b e = refl
 met-fine (answer zero p ∷ a) b e = met-fine a b e
 met-fine (answer (suc k) p ∷ a) b e = never cc
 
-pub met-refused : (a b : List Answer) (r : Refusal) → metIn a ≡ Refused r → metIn (a ++ b) ≡ Refused r
+pub met-refused : (a b : List Answer) (r : Returned) → metIn a ≡ Refused r → metIn (a ++ b) ≡ Refused r
 unfolding metIn firstMet checkedOf
 met-refused [] b r e = never cc
 met-refused (answer zero p ∷ a) b r e = met-refused a b r e
 met-refused (answer (suc k) p ∷ a) b r e = e
 
 -- What a check of a gave is the answer to all, where it is a refusal; else what comes after it decides.
-pub met-stop : (a b : List Answer) (g : Checked) (r : Refusal) → g ≡ metIn a → g ≡ Refused r → g ≡ metIn (a ++ b)
+pub met-stop : (a b : List Answer) (g : Checked) (r : Returned) → g ≡ metIn a → g ≡ Refused r → g ≡ metIn (a ++ b)
 met-stop a b g r e f = f ∙ sym (met-refused a b r (sym e ∙ f))
 
 pub met-go : (a b : List Answer) (g : Checked) → g ≡ metIn a → g ≡ Fine → metIn b ≡ metIn (a ++ b)
@@ -57,7 +58,7 @@ unfolding checkedOf
 fine-none zero place e = refl
 fine-none (suc k) place e = never cc
 
-pub one-stop : (x : Answer) (b : List Answer) (g : Checked) (r : Refusal) → g ≡ checkedOf x → g ≡ Refused r → g ≡ metIn (x ∷ b)
+pub one-stop : (x : Answer) (b : List Answer) (g : Checked) (r : Returned) → g ≡ checkedOf x → g ≡ Refused r → g ≡ metIn (x ∷ b)
 one-stop x b g r e f = met-stop (x ∷ []) b g r (e ∙ sym (met-one x)) f
 
 pub one-go : (x : Answer) (b : List Answer) (g : Checked) → g ≡ checkedOf x → g ≡ Fine → metIn b ≡ metIn (x ∷ b)
@@ -98,7 +99,7 @@ pub turn-of : {n : ℕ} {a : List Answer} {i : ℕ} {x : Answer} {g : Checked} �
 turn-of h p e gave = record { within = h; passed = p; gave = gave ∙ ap checkedOf (sym e) }
 
 -- Where g is a refusal, it is the answer to all; else one more is passed.
-pub turn-stop : {n : ℕ} {a : List Answer} {i : ℕ} {g : Checked} {r : Refusal} → Turn n a i g → g ≡ Refused r → g ≡ metIn a
+pub turn-stop : {n : ℕ} {a : List Answer} {i : ℕ} {g : Checked} {r : Returned} → Turn n a i g → g ≡ Refused r → g ≡ metIn a
 turn-stop {n} {a} {i} {g} {r} t e =
     let h : i < length a = rw (t .passed .long) (t .within) in
     e ∙

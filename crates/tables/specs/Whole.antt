@@ -17,7 +17,7 @@ use Rattle.scope.specs.Call.Tables.{Lent, hasRoom, unpack, formEntry, lineEntry
 use Rattle.classes.specs.Class.{goalIn, policyIn, classTable}
 use Rattle.classes.specs.Rows.{unpack-length}
 use Rattle.classes.specs.Laws.{goal-at, policy-at}
-use Rattle.common.specs.declared.Refusal.{Refusal}
+use Rattle.common.specs.declared.Answer.{Answer as Returned}
 use Rattle.tables.specs.Met.{answerIn, checkedOf, metIn}
 use Rattle.tables.specs.MetLaws.{first-answer, met-stop, met-go, met-front, met-back, met-one, fine-none}
 use Rattle.tables.specs.declared.Checked.{Checked}
@@ -168,11 +168,11 @@ past-met t g e = e ∙ sym (met-one (answer (demand (pastZero t) 3 0) 0))
 
 -- Part by part: a part's refusal is the answer, where the parts before it are fine.
 module _ (t : Lent) (room : Checked) (roomed : room ≡ metIn (roomPart t)) where
-  pub room-stop : (r : Refusal) → room ≡ Refused r → room ≡ checkedOf (checked t)
+  pub room-stop : (r : Returned) → room ≡ Refused r → room ≡ checkedOf (checked t)
   room-stop r e = met-stop (roomPart t) (formPart t ++ later t) room r roomed e ∙ sym (checked-parts t)
 
   module _ (fine : room ≡ Fine) (forms : Checked) (formed : forms ≡ metIn (formPart t)) where
-    pub forms-stop : (r : Refusal) → forms ≡ Refused r → forms ≡ checkedOf (checked t)
+    pub forms-stop : (r : Returned) → forms ≡ Refused r → forms ≡ checkedOf (checked t)
     forms-stop r e =
         met-stop (formPart t) (later t) forms r formed e ∙ met-go (roomPart t) (formPart t ++ later t) room roomed fine ∙ sym (checked-parts t)
 

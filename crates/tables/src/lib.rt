@@ -11,14 +11,14 @@ ghost use Rattle.tables.specs.Met.{checkedOf, metIn, lentWith};
 ghost use Rattle.tables.specs.Answers.{countAnswers, formAnswer, formAnswers, policyAnswers, stepAnswers};
 ghost use Rattle.refusals.specs.Rows.{row};
 ghost use Rattle.tables.specs.Whole.{formPart, linePart, stepPart};
+use common::Answer;
 use common::Counts;
-use common::Refusal;
 
 mod rows;
 
 pub enum Checked {
     Fine,
-    Refused(Refusal),
+    Refused(Answer),
 }
 
 fn answer_at(number: u16, place: u32) -> Checked
@@ -27,7 +27,10 @@ fn answer_at(number: u16, place: u32) -> Checked
     if number == 0 {
         return Checked::Fine;
     }
-    Checked::Refused(Refusal { number, place })
+    Checked::Refused(Answer {
+        refusal: number,
+        place,
+    })
 }
 
 fn room_refusal(forms: usize, lines: usize, steps: usize) -> u16

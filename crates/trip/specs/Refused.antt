@@ -33,7 +33,7 @@ use Rattle.trip.specs.Trip.{check-law}
 -- What a reader gives under the first refusal metThen: the thing and the rest where none is, else that refusal.
 unfoldable metThen : {A : Type 0} → Answer → A → List ℕ → Read A
 metThen (answer zero place) a rest = ok a rest
-metThen (answer (suc k) place) a rest = bad (suc k) place
+metThen (answer (suc k) place) a rest = bad (answer (suc k) place)
 
 -- A reader on the text of a thing, whatever follows, gives what these answers say of it.
 record Meets {A : Type 0} (rd : Reader A) (text : List ℕ) (answers : List Answer) (a : A) : Type 0 where
@@ -156,18 +156,18 @@ unfolding readRequest firstMet countRefusal
 text-told q g = ap (λ s. ended (requestLines s)) (sym (append-nil (requestText q))) ∙ ap ended (request-meets q g .gives [])
 
 pub lines-refused :
-    (q : Request) (k i : ℕ) → InShape q → firstMet (lineAnswers q) ≡ answer (suc k) i → readRequest (requestText q) ≡ refused (suc k) i
+    (q : Request) (k i : ℕ) → InShape q → firstMet (lineAnswers q) ≡ answer (suc k) i → readRequest (requestText q) ≡ refused (answer (suc k) i)
 unfolding ended metThen
 lines-refused q k i g e = text-told q g ∙ ap (λ a. ended (metThen a q [])) e
 
 pub refused-lines :
-    (q : Request) (k i : ℕ) → InShape q → readRequest (requestText q) ≡ refused k i
+    (q : Request) (k i : ℕ) → InShape q → readRequest (requestText q) ≡ refused (answer k i)
     → (j : ℕ) × (k ≡ suc j) × (firstMet (lineAnswers q) ≡ answer (suc j) i)
 unfolding ended metThen
 refused-lines q k i g e = go (firstMet (lineAnswers q)) refl (sym (text-told q g) ∙ e)
   where
     go :
-        (a : Answer) → firstMet (lineAnswers q) ≡ a → ended (metThen a q []) ≡ refused k i
+        (a : Answer) → firstMet (lineAnswers q) ≡ a → ended (metThen a q []) ≡ refused (answer k i)
         → (j : ℕ) × (k ≡ suc j) × (firstMet (lineAnswers q) ≡ answer (suc j) i)
     go (answer zero p) d h = never cc
     go (answer (suc j) p) d h = (j, cc, cc)
@@ -198,40 +198,40 @@ room-law : (t : Lent) → Sayable t → checked t ≡ firstMet (lineAnswers (req
 room-law t g = check-law t ∙ passes _ _ _ (demand-passes _ 13 0 (g .room))
 
 -- What refuses the text refuses the tables, at the same line; and what refuses the tables at a line refuses the text there.
-pub text-checked : (t : Lent) (k i : ℕ) → Sayable t → readRequest (requestText (requestOf t)) ≡ refused k i → checked t ≡ answer k i
+pub text-checked : (t : Lent) (k i : ℕ) → Sayable t → readRequest (requestText (requestOf t)) ≡ refused (answer k i) → checked t ≡ answer k i
 text-checked t k i g e =
     let m = refused-lines (requestOf t) k i (g .in-shape) e in
     rw (m .1) (room-law t g ∙ met-longer (m .0) i (lineAnswers (requestOf t)) _ (m .2))
 
 pub checked-text :
-    (t : Lent) (k i : ℕ) → Sayable t → checked t ≡ answer (suc k) (suc i) → readRequest (requestText (requestOf t)) ≡ refused (suc k) (suc i)
+    (t : Lent) (k i : ℕ) → Sayable t → checked t ≡ answer (suc k) (suc i) → readRequest (requestText (requestOf t)) ≡ refused (answer (suc k) (suc i))
 checked-text t k i g e =
     lines-refused (requestOf t) k (suc i) (g .in-shape) (met-before k i _ (lineAnswers (requestOf t)) (sym (room-law t g) ∙ e))
 
 -- The same of the writer, whatever the output's length: refusal 14 and the refusal past the counts have place 0.
 pub text-unwritten :
-    (t : Lent) (len k i : ℕ) → Sayable t → readRequest (requestText (requestOf t)) ≡ refused k i → writing t len ≡ unwritten k i
+    (t : Lent) (len k i : ℕ) → Sayable t → readRequest (requestText (requestOf t)) ≡ refused (answer k i) → writing t len ≡ unwritten (answer k i)
 unfolding writing writtenIf
 text-unwritten t len k i g e =
     let m = refused-lines (requestOf t) k i (g .in-shape) e in
     rw (text-checked t k i g e, m .1)
 
 pub unwritten-text :
-    (t : Lent) (len k i : ℕ) → Sayable t → writing t len ≡ unwritten k (suc i) → readRequest (requestText (requestOf t)) ≡ refused k (suc i)
+    (t : Lent) (len k i : ℕ) → Sayable t → writing t len ≡ unwritten (answer k (suc i)) → readRequest (requestText (requestOf t)) ≡ refused (answer k (suc i))
 unfolding writing writtenIf
 unwritten-text t len k i g e = go (checked t) refl e
   where
-    fits : (b : Bool) (s : List ℕ) → cond b (written s) (unwritten 14 0) ≡ unwritten k (suc i) → _≡_ {A = ℕ} 0 1
+    fits : (b : Bool) (s : List ℕ) → cond b (written s) (unwritten (answer 14 0)) ≡ unwritten (answer k (suc i)) → _≡_ {A = ℕ} 0 1
     fits true s h = cc
     fits false s h =
         let z : _≡_ {A = ℕ} 0 (suc i) = cc in
         absurd (omega arith)
 
     go :
-        (a : Answer) → checked t ≡ a → writtenIf a (requestText (requestOf t)) len ≡ unwritten k (suc i)
-        → readRequest (requestText (requestOf t)) ≡ refused k (suc i)
+        (a : Answer) → checked t ≡ a → writtenIf a (requestText (requestOf t)) len ≡ unwritten (answer k (suc i))
+        → readRequest (requestText (requestOf t)) ≡ refused (answer k (suc i))
     go (answer zero p) c h = never (fits (leb (length (requestText (requestOf t))) len) (requestText (requestOf t)) h)
     go (answer (suc j) p) c h =
         let x : suc j ≡ k = cc in
         let y : p ≡ suc i = cc in
-        checked-text t j i g (c ∙ ap (λ n. answer (suc j) n) y) ∙ ap (λ n. refused n (suc i)) x
+        checked-text t j i g (c ∙ ap (λ n. answer (suc j) n) y) ∙ ap (λ n. refused (answer n (suc i))) x

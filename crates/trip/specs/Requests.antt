@@ -19,7 +19,7 @@ whole : (x : Read Request) (q : Request) → ended x ≡ read q → x ≡ ok q [
 unfolding ended
 whole (ok p []) q e = cc
 whole (ok p (b ∷ rest)) q e = never cc
-whole (bad k i) q e = never cc
+whole (bad a) q e = never cc
 
 pub read-unrefused : (s : List ℕ) (q : Request) → readRequest s ≡ read q → Unrefused q
 unfolding readRequest

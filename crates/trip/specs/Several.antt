@@ -17,7 +17,7 @@ record After {A B : Type 0} (x : Read A) (next : A → Reader B) (b : B) (rest :
 after-back : {A B : Type 0} (x : Read A) (next : A → Reader B) (b : B) (rest : List ℕ) → andThen x next ≡ ok b rest → After x next b rest
 unfolding andThen
 after-back (ok a r) next b rest e = record { first = a; middle = r; begun = refl; ended = e }
-after-back (bad k i) next b rest e = never cc
+after-back (bad a) next b rest e = never cc
 
 pub record Two (G H : Type 0) : Type 0 where
   pub one : G

@@ -64,22 +64,22 @@ trip-read = read-then-write
 -- refusal that the lines meet is the one that reading their text gives.
 pub refused-alike :
     (t : Lent) (k i : ℕ) → Sayable t → firstMet (lineAnswers (requestOf t)) ≡ answer (suc k) i
-    → readRequest (requestText (requestOf t)) ≡ refused (suc k) i
+    → readRequest (requestText (requestOf t)) ≡ refused (answer (suc k) i)
 refused-alike t k i g e = lines-refused (requestOf t) k i (g .in-shape) e
 
 -- So the checks refuse such tables at a line exactly if the reader refuses their text there, with the same number. Place 0 is left to what
 -- no text has: a nonzero entry past the counts.
 pub checks-alike :
     (t : Lent) (k i : ℕ) → Sayable t
-    → (checked t ≡ answer (suc k) (suc i) → readRequest (requestText (requestOf t)) ≡ refused (suc k) (suc i)) ×
-    (readRequest (requestText (requestOf t)) ≡ refused k i → checked t ≡ answer k i)
+    → (checked t ≡ answer (suc k) (suc i) → readRequest (requestText (requestOf t)) ≡ refused (answer (suc k) (suc i))) ×
+    (readRequest (requestText (requestOf t)) ≡ refused (answer k i) → checked t ≡ answer k i)
 checks-alike t k i g = (checked-text t k i g, text-checked t k i g)
 
 -- And so does the writer, whatever the length of the output.
 pub writes-alike :
     (t : Lent) (len k i : ℕ) → Sayable t
-    → (writing t len ≡ unwritten k (suc i) → readRequest (requestText (requestOf t)) ≡ refused k (suc i)) ×
-    (readRequest (requestText (requestOf t)) ≡ refused k i → writing t len ≡ unwritten k i)
+    → (writing t len ≡ unwritten (answer k (suc i)) → readRequest (requestText (requestOf t)) ≡ refused (answer k (suc i))) ×
+    (readRequest (requestText (requestOf t)) ≡ refused (answer k i) → writing t len ≡ unwritten (answer k i))
 writes-alike t len k i g = (unwritten-text t len k i g, text-unwritten t len k i g)
 
 -- A text refused at a line (`Where`): the line's number is 1 and the LFs before it, what stands before it is whole lines and short of just

@@ -66,7 +66,7 @@ pub wrote : (t : Lent) (len : ℕ) (s : List ℕ) → writing t len ≡ written 
 unfolding writing writtenIf
 wrote t len s e = go (checked t) refl e
   where
-    picked : (b : Bool) (u : List ℕ) → leb (length u) len ≡ b → cond b (written u) (unwritten 14 0) ≡ written s → (u ≡ s) × (length s ≤ len)
+    picked : (b : Bool) (u : List ℕ) → leb (length u) len ≡ b → cond b (written u) (unwritten (answer 14 0)) ≡ written s → (u ≡ s) × (length s ≤ len)
     picked true u l q =
         let z : u ≡ s = cc in
         (z, rw z at (leb-true (length u) len l))
@@ -97,7 +97,7 @@ unfolding reading
 got f l n s q e = go (hasRoom f l n) (leb (length s) 65536) refl e
   where
     go :
-        (a b : Bool) → hasRoom f l n ≡ a → cond a (cond b (readRequest s) (refused 1 0)) (refused 13 0) ≡ read q
+        (a b : Bool) → hasRoom f l n ≡ a → cond a (cond b (readRequest s) (refused (answer 1 0))) (refused (answer 13 0)) ≡ read q
         → Got f l n s q
     go true true r e′ = record { room = r; request = e′ }
     go true false r e′ = never cc

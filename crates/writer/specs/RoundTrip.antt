@@ -25,8 +25,8 @@ pub record Writes (t : Lent) (len : ℕ) (r : Writing) (output : List ℕ) : Typ
   pub answered : r ≡ writingOf (writing t len)
   pub stands : output ≡ outputAfter len (writing t len)
 
-picked : (b : Bool) (s : List ℕ) → refusalIn (writtenAnswer (cond b (written s) (unwritten 14 0))) ≡ 0 →
-    cond b (written s) (unwritten 14 0) ≡ written (textIn (cond b (written s) (unwritten 14 0)))
+picked : (b : Bool) (s : List ℕ) → refusalIn (writtenAnswer (cond b (written s) (unwritten (answer 14 0)))) ≡ 0 →
+    cond b (written s) (unwritten (answer 14 0)) ≡ written (textIn (cond b (written s) (unwritten (answer 14 0))))
 unfolding refusalIn writtenAnswer textIn
 picked true s e = refl
 picked false s e = absurd (omega arith)

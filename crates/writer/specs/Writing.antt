@@ -11,7 +11,8 @@ use Rattle.scope.specs.File.Text.{requestText}
 use Rattle.scope.specs.Call.Tables.{Lent, requestOf, padded}
 use Rattle.scope.specs.Call.Checked.{checked}
 use Rattle.scope.specs.Call.Calls.{Written, written, unwritten, writtenIf, writing, writtenAnswer, textIn, outputAfter}
-use Rattle.common.specs.declared.Refusal.{Refusal}
+use Rattle.common.specs.Answers.{answerOf, answerIs}
+use Rattle.common.specs.declared.Answer.{Answer as Returned}
 use Rattle.tables.specs.declared.Checked.{Checked}
 use Rattle.tables.specs.declared.Checked.the-variants.{Fine, Refused}
 use Rattle.tables.specs.Met.{checkedOf}
@@ -23,26 +24,26 @@ writingOf w = record { refusal = refusalIn (writtenAnswer w); place = placeIn (w
 
 unfoldable pub refusedAs : Checked → Writing
 refusedAs Fine = record { refusal = 0; place = 0; length = 0 }
-refusedAs (Refused r) = record { refusal = r .number; place = r .place; length = 0 }
+refusedAs (Refused a) = record { refusal = a .refusal; place = a .place; length = 0 }
 
 -- An output of zeros is what a refusal leaves.
 zeros-left : (len : ℕ) (w : Written) → textIn w ≡ [] → replicate len 0 ≡ outputAfter len w
 unfolding outputAfter padded
 zeros-left len w e = rw e (ap (λ (n : ℕ). replicate n 0) (sym (sub-zero len)))
 
-if-refused : (a : Answer) (s : List ℕ) (len : ℕ) (r : Refusal) → checkedOf a ≡ Refused r → writtenIf a s len ≡ unwritten (r .number) (r .place)
+if-refused : (a : Answer) (s : List ℕ) (len : ℕ) (r : Returned) → checkedOf a ≡ Refused r → writtenIf a s len ≡ unwritten (answer (r .number) (r .place))
 unfolding checkedOf writtenIf
 if-refused (answer zero place) s len r e = never cc
 if-refused (answer (suc k) place) s len r e =
-    let f : record { number = suc k; place = place } ≡ r = cc in
-    ap (λ (x : Refusal). unwritten (x .number) (x .place)) f
+    let f : answerOf (answer (suc k) place) ≡ r = cc in
+    ap (λ x. unwritten (answerIs x)) f
 
 if-fits : (a : Answer) (s : List ℕ) (len : ℕ) → checkedOf a ≡ Fine → length s ≤ len → writtenIf a s len ≡ written s
 unfolding checkedOf writtenIf
 if-fits (answer zero place) s len e h = rw (le-leb (length s) len h) refl
 if-fits (answer (suc k) place) s len e h = never cc
 
-if-short : (a : Answer) (s : List ℕ) (len : ℕ) → checkedOf a ≡ Fine → len < length s → writtenIf a s len ≡ unwritten 14 0
+if-short : (a : Answer) (s : List ℕ) (len : ℕ) → checkedOf a ≡ Fine → len < length s → writtenIf a s len ≡ unwritten (answer 14 0)
 unfolding checkedOf writtenIf
 if-short (answer zero place) s len e h = rw (lt-leb (length s) len h) refl
 if-short (answer (suc k) place) s len e h = never cc
@@ -52,11 +53,11 @@ unfolding writing
 writing-is t len = refl
 
 -- The three ways in which a call ends: what it answers, and what stands in the output.
-pub ends-refused : (t : Lent) (len : ℕ) (c : Checked) (r : Refusal) → c ≡ checkedOf (checked t) → c ≡ Refused r →
+pub ends-refused : (t : Lent) (len : ℕ) (c : Checked) (r : Returned) → c ≡ checkedOf (checked t) → c ≡ Refused r →
     (refusedAs c ≡ writingOf (writing t len)) × (replicate len 0 ≡ outputAfter len (writing t len))
 unfolding refusedAs writingOf writtenAnswer textIn refusalIn placeIn
 ends-refused t len c r e f =
-    let w : writing t len ≡ unwritten (r .number) (r .place) =
+    let w : writing t len ≡ unwritten (answer (r .number) (r .place)) =
     writing-is t len ∙ if-refused (checked t) (requestText (requestOf t)) len r (sym e ∙ f) in
     (ap refusedAs f ∙ ap writingOf (sym w), zeros-left len (writing t len) (ap textIn w))
 
@@ -64,7 +65,7 @@ pub ends-short : (t : Lent) (len : ℕ) (c : Checked) → c ≡ checkedOf (check
     (record { refusal = 14; place = 0; length = 0 } ≡ writingOf (writing t len)) × (replicate len 0 ≡ outputAfter len (writing t len))
 unfolding writingOf writtenAnswer textIn refusalIn placeIn
 ends-short t len c e f h =
-    let w : writing t len ≡ unwritten 14 0 = writing-is t len ∙ if-short (checked t) (requestText (requestOf t)) len (sym e ∙ f) h in
+    let w : writing t len ≡ unwritten (answer 14 0) = writing-is t len ∙ if-short (checked t) (requestText (requestOf t)) len (sym e ∙ f) h in
     (ap writingOf (sym w), zeros-left len (writing t len) (ap textIn w))
 
 pub ends-written : (t : Lent) (len n : ℕ) (c : Checked) → c ≡ checkedOf (checked t) → c ≡ Fine →

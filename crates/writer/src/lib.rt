@@ -40,9 +40,9 @@ fn refused_as(checked: Checked) -> Writing
             place: 0,
             length: 0,
         },
-        Checked::Refused(refusal) => Writing {
-            refusal: refusal.number,
-            place: refusal.place,
+        Checked::Refused(answer) => Writing {
+            refusal: answer.refusal,
+            place: answer.place,
             length: 0,
         },
     }

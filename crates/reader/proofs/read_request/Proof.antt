@@ -3,6 +3,7 @@ use mathlib.Core.Path.{_≡_, ap, sym, _∙_}
 use mathlib.Core.Bool.{Bool, true}
 use lib.ListN.{length, replicate}
 use borrow.Author.Tests.{not-true, not-false}
+use Rattle.scope.specs.Call.Answer.{answer}
 use Rattle.scope.specs.File.Reader.{Outcome, refused, readRequest}
 use Rattle.scope.specs.Call.Tables.{table, formEntry, lineEntry, stepEntry, hasRoom}
 use Rattle.scope.specs.Call.Calls.{reading}
@@ -78,7 +79,7 @@ same-length-3 c = c .before .before .before .before .zero-table3 .kept .0
 
 returns : tie.Need-returns
 returns c =
-    let o : asked (c .before) ≡ refused 13 0 = no-room _ _ _ _
+    let o : asked (c .before) ≡ refused (answer 13 0) = no-room _ _ _ _
     (sym (room (c .before)) ∙ not-true (c .before .has-room .result) (c .if1 .taken)) in
     (refused-answer (asked (c .before)) (refusalIs 13 0) o, tables-zero (cleared (c .before)) (asked (c .before)) (refusalIs 13 0) o)
 
@@ -92,7 +93,7 @@ same-length-6 : tie.Need-same-length-6
 same-length-6 c = c .before .before .before .before .before .zero-table3 .kept .0
 
 returns-2 : tie.Need-returns-2
-returns-2 c = let o : asked (c .before .before) ≡ refused 1 0 = too-long _ _ _ _ (enough (c .before)) (c .if2 .taken) in (
+returns-2 c = let o : asked (c .before .before) ≡ refused (answer 1 0) = too-long _ _ _ _ (enough (c .before)) (c .if2 .taken) in (
   refused-answer (asked (c .before .before)) (refusalIs 1 0) o,
   tables-zero (cleared (c .before .before)) (asked (c .before .before))
       (refusalIs 1 0) o,

@@ -1,4 +1,4 @@
--- 'What comes back': a refusal number of document 01, 0 where there is none, and its place.
+-- 'What comes back': a refusal number of document 01, 0 where there is none, and its place. Reader, checks, writer, judge and gate all answer by it.
 use Prim.Native.Nat.{ℕ}
 
 pub data Answer : Type 0 where

@@ -16,11 +16,11 @@ use Rattle.scope.specs.Call.Checked.{checked}
 unfoldable pub reading : ℕ → ℕ → ℕ → List ℕ → Outcome
 unfolding hasRoom readRequest
 reading forms lines steps s =
-    cond (hasRoom forms lines steps) (cond (leb (length s) mostBytes) (readRequest s) (refused 1 0)) (refused 13 0)
+    cond (hasRoom forms lines steps) (cond (leb (length s) mostBytes) (readRequest s) (refused (answer 1 0))) (refused (answer 13 0))
 
 unfoldable pub outcomeAnswer : Outcome → Answer
 outcomeAnswer (read q) = answer 0 0
-outcomeAnswer (refused k place) = answer k place
+outcomeAnswer (refused a) = a
 
 -- 'The counts and the goal come in the answer; after a refusal they are 0.'
 abbrev pub noRequest : Request
@@ -28,7 +28,7 @@ noRequest = record { principals = 0; atoms = 0; forms = []; lines = []; goal = 0
 
 unfoldable pub requestIn : Outcome → Request
 requestIn (read q) = q
-requestIn (refused k place) = noRequest
+requestIn (refused a) = noRequest
 
 -- The tables as they stand after reading, over the whole lent length: all zero after a refusal.
 unfoldable pub formTableAfter : ℕ → Outcome → List ℕ
@@ -50,12 +50,12 @@ lentAfter forms lines steps o = lentOf forms lines steps (requestIn o)
 
 pub data Written : Type 0 where
   written : List ℕ → Written
-  unwritten : ℕ → ℕ → Written
+  unwritten : Answer → Written
 
 -- 'then 14': the output is shorter than the text.
 unfoldable pub writtenIf : Answer → List ℕ → ℕ → Written
-writtenIf (answer zero place) s len = cond (leb (length s) len) (written s) (unwritten 14 0)
-writtenIf (answer (suc k) place) s len = unwritten (suc k) place
+writtenIf (answer zero place) s len = cond (leb (length s) len) (written s) (unwritten (answer 14 0))
+writtenIf (answer (suc k) place) s len = unwritten (answer (suc k) place)
 
 -- The output has length len.
 unfoldable pub writing : Lent → ℕ → Written
@@ -64,12 +64,12 @@ writing t len = writtenIf (checked t) (requestText (requestOf t)) len
 
 unfoldable pub writtenAnswer : Written → Answer
 writtenAnswer (written s) = answer 0 0
-writtenAnswer (unwritten k place) = answer k place
+writtenAnswer (unwritten a) = a
 
 -- 'Its answer gives the text's length, 0 if refused.'
 unfoldable pub textIn : Written → List ℕ
 textIn (written s) = s
-textIn (unwritten k place) = []
+textIn (unwritten a) = []
 
 -- 'Written bytes are followed by zeros.'
 unfoldable pub outputAfter : ℕ → Written → List ℕ

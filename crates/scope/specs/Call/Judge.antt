@@ -56,7 +56,7 @@ printed (answer k place) steps = prints k place steps
 unfoldable pub printedAfter : Outcome → Printed
 unfolding printed stepsAnswer
 printedAfter (read q) = printed (stepsAnswer q) (length (q .steps))
-printedAfter (refused k place) = prints k place 0
+printedAfter (refused a) = printed a 0
 
 -- The gate reads into tables of just the room that is asked for.
 unfoldable pub gate : List ℕ → Printed

@@ -5,6 +5,7 @@ use mathlib.Core.Bool.{cond}
 use mathlib.Core.Option.{Option, none, some}
 use lib.Dec.{eqb}
 use lib.ListN.{length}
+use Rattle.scope.specs.Call.Answer.{Answer, answer}
 use Rattle.scope.specs.File.Bytes.{joined}
 
 -- How the value of a line is written: the thing that a value in shape stands for, and the text of a thing.
@@ -25,7 +26,7 @@ pub data Value (A : Type 0) : Type 0 where
 -- What reading a line or more gives: a thing and the rest of the text, or a refusal at a line.
 pub data Read (A : Type 0) : Type 0 where
   ok : A → List ℕ → Read A
-  bad : ℕ → ℕ → Read A
+  bad : Answer → Read A
 
 abbrev pub Reader : Type 0 → Type 0
 Reader A = List ℕ → Read A
@@ -68,11 +69,11 @@ valued l refusal (some v) = shapedAs refusal (l .shape .thing v)
 
 unfoldable pub placed : {A : Type 0} → ℕ → Value A → List ℕ → Read A
 placed i (val a) rest = ok a rest
-placed i (out k) rest = bad k i
+placed i (out k) rest = bad (answer k i)
 
 unfoldable pub lineOf : {A : Type 0} → Line A → (A → ℕ) → ℕ → Cut → Read A
 unfolding strip valued placed
-lineOf l refusal i uncut = bad 2 i
+lineOf l refusal i uncut = bad (answer 2 i)
 lineOf l refusal i (parts s rest) = placed i (valued l refusal (strip (l .key) s)) rest
 
 -- Line number i of the text: missing, out of shape or without LF is 2.
@@ -86,7 +87,7 @@ lineText l a = l .key ++ l .shape .text a ++ 10 ∷ []
 -- One andThen the other: the second is read from where the first ends. The first refusal met is the answer.
 unfoldable pub andThen : {A B : Type 0} → Read A → (A → Reader B) → Read B
 andThen (ok a rest) next = next a rest
-andThen (bad k i) next = bad k i
+andThen (bad a) next = bad a
 
 unfoldable pub _>>=_ : {A B : Type 0} → Reader A → (A → Reader B) → Reader B
 unfolding andThen

@@ -2,6 +2,7 @@
 use Prim.Native.Nat.{ℕ, suc}
 use mathlib.Core.List.{List, [], _∷_}
 use lib.ListN.{length}
+use Rattle.scope.specs.Call.Answer.{Answer, answer}
 use Rattle.scope.specs.File.Request.{Row, Request}
 use Rattle.scope.specs.File.Number.{number}
 use Rattle.scope.specs.File.Line.{Read, ok, bad, Reader, line, counted, done, _>>=_}
@@ -12,7 +13,7 @@ use Rattle.scope.specs.File.Text.{versionLine, principalsLine, atomsLine
 
 pub data Outcome : Type 0 where
   read : Request → Outcome
-  refused : ℕ → ℕ → Outcome
+  refused : Answer → Outcome
 
 -- One more `form=` line, behind the formulas before it; and the like.
 abbrev pub formItem : ℕ → ℕ → List Row → Reader Row
@@ -39,8 +40,8 @@ requestLines = do
 -- 'Nothing follows.' 'bytes after the last step'
 unfoldable pub ended : Read Request → Outcome
 ended (ok q []) = read q
-ended (ok q (b ∷ rest)) = refused 6 (endAt (length (q .forms)) (length (q .lines)) (length (q .steps)))
-ended (bad k i) = refused k i
+ended (ok q (b ∷ rest)) = refused (answer 6 (endAt (length (q .forms)) (length (q .lines)) (length (q .steps))))
+ended (bad a) = refused a
 
 unfoldable pub readRequest : List ℕ → Outcome
 unfolding requestLines ended
