@@ -8,6 +8,7 @@ use mathlib.Core.Option.{Option, none, some}
 use native.Mathlib.Omega.{arith}
 use lib.Dec.{eqb}
 use lib.ListN.{length, length-append}
+use Rattle.scope.specs.Call.Answer.{answer}
 use Rattle.scope.specs.File.Line.{Line, Value, val, out, Read, ok, bad, Reader, Cut, parts, uncut, cut, cutAfter, strip, orRefused, shapedAs, valued, placed, lineOf, line, andThen, _>>=_, done, many, counted}
 use Rattle.scope.specs.Tools.Tests.{never}
 use Rattle.trip.specs.Cuts.{free, free-cons, free-one, cut-there, cut-back}
@@ -92,12 +93,12 @@ pub record Stopped {A : Type 0} (m : Reader A) (i : ℕ) (s : List ℕ) (k j : �
   pub lines : whole before ≡ true
   pub place : j ≡ i + lfs before
   pub number : OfLine k
-  pub short : m before ≡ bad 2 j
-  pub whatever : (l r : List ℕ) → cut 10 rest ≡ parts l r → (t : List ℕ) → m (before ++ (l ++ 10 ∷ t)) ≡ bad k j
+  pub short : m before ≡ bad (answer 2 j)
+  pub whatever : (l r : List ℕ) → cut 10 rest ≡ parts l r → (t : List ℕ) → m (before ++ (l ++ 10 ∷ t)) ≡ bad (answer k j)
 
 pub record From {A : Type 0} (i : ℕ) (end : A → ℕ) (m : Reader A) : Type 0 where
   pub goes : (s : List ℕ) (a : A) (rest : List ℕ) → m s ≡ ok a rest → Gone m i end s a rest
-  pub stops : (s : List ℕ) (k j : ℕ) → m s ≡ bad k j → Stopped m i s k j
+  pub stops : (s : List ℕ) (k j : ℕ) → m s ≡ bad (answer k j) → Stopped m i s k j
 
 -- One line.
 settled-mild : {A : Type 0} (n : ℕ) (a : A) (k : ℕ) → Mild n → orRefused n a ≡ out k → OfLine k
@@ -122,7 +123,7 @@ module _ {A : Type 0} (l : Line A) (refusal : A → ℕ) (mild : (a : A) → Mil
   unfolding line lineOf
   line-cut x t f = rw (cut-there 10 x t f)
 
-  line-missing : line l refusal i [] ≡ bad 2 i
+  line-missing : line l refusal i [] ≡ bad (answer 2 i)
   unfolding line lineOf cut
   line-missing = refl
 
@@ -146,7 +147,7 @@ module _ {A : Type 0} (l : Line A) (refusal : A → ℕ) (mild : (a : A) → Mil
             whatever = λ t. rw (append-assoc x (10 ∷ []) t, line-cut x t f, g, z);
           }
 
-  line-stops : (s : List ℕ) (k j : ℕ) (c : Cut) → cut 10 s ≡ c → lineOf l refusal i c ≡ bad k j → Stopped (line l refusal i) i s k j
+  line-stops : (s : List ℕ) (k j : ℕ) (c : Cut) → cut 10 s ≡ c → lineOf l refusal i c ≡ bad (answer k j) → Stopped (line l refusal i) i s k j
   unfolding lineOf placed
   line-stops s k j uncut d e =
       let z : k ≡ 2 = cc in
@@ -158,12 +159,12 @@ module _ {A : Type 0} (l : Line A) (refusal : A → ℕ) (mild : (a : A) → Mil
         lines = nothing-whole;
         place = omega (arith, no-lf);
         number = shape z;
-        short = line-missing ∙ ap (λ n. bad 2 n) y;
+        short = line-missing ∙ ap (λ n. bad (answer 2 n)) y;
         whatever = λ x r g t. never cc;
       }
   line-stops s k j (parts x r) d e = go (valued l refusal (strip (l .key) x)) refl e
     where
-      go : (v : Value A) → valued l refusal (strip (l .key) x) ≡ v → placed i v r ≡ bad k j → Stopped (line l refusal i) i s k j
+      go : (v : Value A) → valued l refusal (strip (l .key) x) ≡ v → placed i v r ≡ bad (answer k j) → Stopped (line l refusal i) i s k j
       go (val a) g e′ = never cc
       go (out n) g e′ =
           let z : n ≡ k = cc in
@@ -176,7 +177,7 @@ module _ {A : Type 0} (l : Line A) (refusal : A → ℕ) (mild : (a : A) → Mil
             lines = nothing-whole;
             place = omega (arith, no-lf);
             number = rw z at (valued-mild (strip (l .key) x) n g);
-            short = line-missing ∙ ap (λ n. bad 2 n) y;
+            short = line-missing ∙ ap (λ n. bad (answer 2 n)) y;
             whatever =
                 λ u r′ h t.
                 let w : x ≡ u = cc in
@@ -193,7 +194,7 @@ module _ {A B : Type 0} {i : ℕ} {end : A → ℕ} {last : B → ℕ} {m : Read
     (f : From i end m) (g : (a : A) → From (end a) last (next a)) where
   then-goes : (s : List ℕ) (b : B) (rest : List ℕ) (x : Read A) → m s ≡ x → andThen x next ≡ ok b rest → Gone (_>>=_ m next) i last s b rest
   unfolding andThen _>>=_
-  then-goes s b rest (bad k j) d e = never cc
+  then-goes s b rest (bad a) d e = never cc
   then-goes s b rest (ok a mid) d e =
       let p = f .goes s a mid d in
       let q = g a .goes mid b rest e in
@@ -205,9 +206,9 @@ module _ {A B : Type 0} {i : ℕ} {end : A → ℕ} {last : B → ℕ} {m : Read
         whatever = λ t. rw (append-assoc (p .gone) (q .gone) t, p .whatever (q .gone ++ t)) (q .whatever t);
       }
 
-  then-stops : (s : List ℕ) (k j : ℕ) (x : Read A) → m s ≡ x → andThen x next ≡ bad k j → Stopped (_>>=_ m next) i s k j
+  then-stops : (s : List ℕ) (k j : ℕ) (x : Read A) → m s ≡ x → andThen x next ≡ bad (answer k j) → Stopped (_>>=_ m next) i s k j
   unfolding andThen _>>=_
-  then-stops s k j (bad n h) d e =
+  then-stops s k j (bad (answer n h)) d e =
       let y : n ≡ k = cc in
       let z : h ≡ j = cc in
       let p = f .stops s k j (cc (d, y, z)) in

@@ -7,6 +7,7 @@ use mathlib.Core.Bool.{true}
 use native.Mathlib.Omega.{arith}
 use lib.ListN.{length}
 use Rattle.scope.specs.File.Request.{Request}
+use Rattle.scope.specs.Call.Answer.{answer}
 use Rattle.scope.specs.File.Line.{Read, ok, bad, parts, cut}
 use Rattle.scope.specs.File.Refusals.{versionRefusal, principalsRefusal, atomsRefusal, formulasRefusal, formRefusal, clausesRefusal, clauseRefusal, goalRefusal, stepsRefusal, stepRefusal}
 use Rattle.scope.specs.File.Text.{versionLine, principalsLine, atomsLine, formulasLine, formLine, clausesLine, clauseLine, goalLine, stepsLine, stepLine}
@@ -29,8 +30,8 @@ pub record Before (s : List ℕ) (i : ℕ) : Type 0 where
 pub data Where (s : List ℕ) (k i : ℕ) : Type 0 where
   -- of the line: cut off before it, the text is short of just that line; and whatever stands behind its LF, the refusal is the same
   of-line :
-      (b : Before s i) → OfLine k → readRequest (b .before) ≡ refused 2 i →
-      ((l r : List ℕ) → cut 10 (b .rest) ≡ parts l r → (t : List ℕ) → readRequest (b .before ++ (l ++ 10 ∷ t)) ≡ refused k i) →
+      (b : Before s i) → OfLine k → readRequest (b .before) ≡ refused (answer 2 i) →
+      ((l r : List ℕ) → cut 10 (b .rest) ≡ parts l r → (t : List ℕ) → readRequest (b .before ++ (l ++ 10 ∷ t)) ≡ refused (answer k i)) →
       Where s k i
   -- of what follows the last step: cut off before it, the text reads
   of-rest : (b : Before s i) (q : Request) → k ≡ 6 → readRequest (b .before) ≡ read q → Where s k i
@@ -56,17 +57,17 @@ request-from =
     from-as (omega arith) (λ x. omega arith) (line-from stepLine stepRefusal step-mild (stepAt (length forms) (length lines) (suc (length before))))) λ steps.
     done-from _ _ _ (omega arith)))
 
-ended-bad : (x : Read Request) (k i : ℕ) → x ≡ bad k i → ended x ≡ refused k i
+ended-bad : (x : Read Request) (k i : ℕ) → x ≡ bad (answer k i) → ended x ≡ refused (answer k i)
 unfolding ended
 ended-bad x k i e = rw e
 
 -- Every refusal of a text is met at its place.
-pub refused-where : (s : List ℕ) (k i : ℕ) → readRequest s ≡ refused k i → Where s k i
+pub refused-where : (s : List ℕ) (k i : ℕ) → readRequest s ≡ refused (answer k i) → Where s k i
 unfolding readRequest ended
 refused-where s k i e = go (requestLines s) refl e
   where
-    go : (x : Read Request) → requestLines s ≡ x → ended x ≡ refused k i → Where s k i
-    go (bad n j) d e′ =
+    go : (x : Read Request) → requestLines s ≡ x → ended x ≡ refused (answer k i) → Where s k i
+    go (bad (answer n j)) d e′ =
         let y : n ≡ k = cc in
         let z : j ≡ i = cc in
         let p = request-from .stops s k i (cc (d, y, z)) in

@@ -84,5 +84,5 @@ writes-alike t len k i g = (unwritten-text t len k i g, text-unwritten t len k i
 
 -- A text refused at a line (`Where`): the line's number is 1 and the LFs before it, what stands before it is whole lines and short of just
 -- that line, or for 6 reads, and whatever stands behind that line the refusal is the same.
-pub placed-right : (s : List ℕ) (k i : ℕ) → readRequest s ≡ refused k i → Where s k i
+pub placed-right : (s : List ℕ) (k i : ℕ) → readRequest s ≡ refused (answer k i) → Where s k i
 placed-right = refused-where

@@ -133,7 +133,7 @@ what-is-read = refl
 -- After a refusal, whatever it is: counts, goal and tables are 0.
 pub nothing-is-read :
     (k place : ℕ)
-    → lentAfter 3 2 4 (refused k place)
+    → lentAfter 3 2 4 (refused (answer k place))
     ≡ record {
       principals = 0;
       atoms = 0;
