@@ -8,4 +8,3 @@ pub mod Turns
 pub mod Got
 pub mod Joins
 pub mod Outcomes
-pub mod Unique

@@ -2,4 +2,3 @@ pub mod Puts
 pub mod Lines
 pub mod Sections
 pub mod Writing
-pub mod RoundTrip
