@@ -110,7 +110,7 @@ struct peraduksi_counts {
     uint16_t principals;
     uint16_t atoms;
     uint16_t formulas;
-    uint16_t lines;
+    uint16_t policy;
     uint16_t goal;
     uint16_t steps;
 };

@@ -27,7 +27,7 @@ pub fn narrow(counts: &oracle::Counts) -> Option<Counts> {
         principals: of(counts.principals)?,
         atoms: of(counts.atoms)?,
         formulas: of(counts.formulas)?,
-        lines: of(counts.lines)?,
+        policy: of(counts.lines)?,
         goal: of(counts.goal)?,
         steps: of(counts.steps)?,
     })
@@ -55,7 +55,7 @@ pub mod ours {
             principals: counts.principals.into(),
             atoms: counts.atoms.into(),
             formulas: counts.formulas.into(),
-            lines: counts.lines.into(),
+            lines: counts.policy.into(),
             goal: counts.goal.into(),
             steps: counts.steps.into(),
         };

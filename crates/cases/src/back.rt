@@ -12,14 +12,14 @@ pub(crate) fn reads(answer: u64) -> bool {
 // Whether the file, read into lent tables, is written back byte for byte, with zeros behind it.
 pub(crate) fn written_back(file: &[u8]) -> bool {
     let mut forms = [0u16; 3072];
-    let mut lines = [0u16; 128];
+    let mut policy = [0u16; 128];
     let mut steps = [0u16; 4096];
-    let got = reader::read_request(file, &mut forms, &mut lines, &mut steps);
+    let got = reader::read_request(file, &mut forms, &mut policy, &mut steps);
     let Reading::Read(counts) = got else {
         return false;
     };
     let mut out = [1u8; 65536];
-    let written = writer::write(counts, &forms, &lines, &steps, &mut out);
+    let written = writer::write(counts, &forms, &policy, &steps, &mut out);
     if written.refusal != 0 {
         return false;
     }

@@ -34,7 +34,7 @@ pub struct Counts {
     pub principals: u16,
     pub atoms: u16,
     pub formulas: u16,
-    pub lines: u16,
+    pub policy: u16,
     pub goal: u16,
     pub steps: u16,
 }

@@ -93,7 +93,7 @@ lines-firm =
     then-firm (line-firm _ _ _) λ principals.
     then-firm (line-firm _ _ _) λ atoms.
     then-firm (counted-firm _ _ _ _ (λ b. line-firm _ _ _)) λ forms.
-    then-firm (counted-firm _ _ _ _ (λ b. line-firm _ _ _)) λ lines.
+    then-firm (counted-firm _ _ _ _ (λ b. line-firm _ _ _)) λ policy.
     then-firm (line-firm _ _ _) λ goal.
     then-firm (counted-firm _ _ _ _ (λ b. line-firm _ _ _)) λ steps.
     done-firm _
@@ -113,7 +113,7 @@ unfolding readRequest
 request-firm s k i e = ended-firm (requestLines s) k i (λ n j d. lines-firm .firm s n j d) e
 
 -- No refusal of the reader has number 0.
-pub reading-firm : (forms lines steps : ℕ) (s : List ℕ) (k place : ℕ) → reading forms lines steps s ≡ refused (answer k place) → 0 < k
+pub reading-firm : (forms policy steps : ℕ) (s : List ℕ) (k place : ℕ) → reading forms policy steps s ≡ refused (answer k place) → 0 < k
 unfolding reading
 reading-firm f l n s k place e = go (hasRoom f l n) (leb (length s) mostBytes) e
   where

@@ -9,12 +9,12 @@ use Rattle.scope.specs.Call.Answer as S
 use Rattle.scope.specs.Limits.{mostFormulas, mostPolicyLines, mostSteps}
 use Rattle.scope.specs.File.Reader.{Outcome, read, refused}
 use Rattle.scope.specs.Call.Tables.{lentOf}
-use Rattle.scope.specs.Call.Calls.{formTableAfter, lineTableAfter, stepTableAfter, requestIn}
+use Rattle.scope.specs.Call.Calls.{formTableAfter, policyTableAfter, stepTableAfter, requestIn}
 use Rattle.scope.specs.Call.Judge.{judge, prints, printed, gate}
 use Rattle.scope.specs.Call.Judge as J
 use Rattle.common.specs.declared.Counts.{Counts}
 use Rattle.common.specs.declared.Answer.{Answer as Returned}
-use Rattle.tables.specs.Met.{lentWith}
+use Rattle.checks.specs.Met.{lentWith}
 use Rattle.reader.specs.declared.Reading.{Reading}
 use Rattle.reader.specs.declared.Reading.the-variants as Reading
 use Rattle.reader.specs.Answers.{countsOf, readingOf}
@@ -46,31 +46,31 @@ printed-answer (S.answer k place) n = refl
 
 -- The tables as reading leaves them, with the counts that it answers, say the request that was read.
 lent-is : (q : Request) →
-    lentWith (countsOf q) (formTableAfter (3 * mostFormulas) (read q)) (lineTableAfter mostPolicyLines (read q)) (stepTableAfter (2 * mostSteps) (read q))
+    lentWith (countsOf q) (formTableAfter (3 * mostFormulas) (read q)) (policyTableAfter mostPolicyLines (read q)) (stepTableAfter (2 * mostSteps) (read q))
     ≡ lentOf (3 * mostFormulas) mostPolicyLines (2 * mostSteps) q
-unfolding formTableAfter lineTableAfter stepTableAfter requestIn lentOf
+unfolding formTableAfter policyTableAfter stepTableAfter requestIn lentOf
 lent-is q = refl
 
 abbrev put : Returned → ℕ → Printed
 put a n = record { answer = a .refusal; place = a .place; steps = n }
 
 -- What the gate puts together from the judge's answer and the count of steps.
-pub read-prints : (s : List ℕ) (c : Counts) (forms lines steps : List ℕ) (a : Returned) → readingOf (gateReads s) ≡ Reading.Read c →
-    forms ≡ formTableAfter (3 * mostFormulas) (gateReads s) → lines ≡ lineTableAfter mostPolicyLines (gateReads s) → steps ≡ stepTableAfter (2 * mostSteps) (gateReads s) →
-    a ≡ answerOf (judge (lentWith c forms lines steps)) → put a (c .steps) ≡ printedOf (gate s)
+pub read-prints : (s : List ℕ) (c : Counts) (forms policy steps : List ℕ) (a : Returned) → readingOf (gateReads s) ≡ Reading.Read c →
+    forms ≡ formTableAfter (3 * mostFormulas) (gateReads s) → policy ≡ policyTableAfter mostPolicyLines (gateReads s) → steps ≡ stepTableAfter (2 * mostSteps) (gateReads s) →
+    a ≡ answerOf (judge (lentWith c forms policy steps)) → put a (c .steps) ≡ printedOf (gate s)
 unfolding readingOf
-read-prints s c forms lines steps a e f l p j = go (gateReads s) refl e
+read-prints s c forms policy steps a e f l p j = go (gateReads s) refl e
   where
     go : (o : Outcome) → gateReads s ≡ o → readingOf o ≡ Reading.Read c → put a (c .steps) ≡ printedOf (gate s)
     go (refused (answer k place)) d h = never cc
     go (read q) d h =
         let k : countsOf q ≡ c = cc in
-        let t : lentWith c forms lines steps ≡ lentOf (3 * mostFormulas) mostPolicyLines (2 * mostSteps) q =
-        ap (λ x. lentWith x forms lines steps) (sym k) ∙
-        ap (λ x. lentWith (countsOf q) x lines steps) (f ∙ ap (formTableAfter (3 * mostFormulas)) d) ∙
-        ap (λ x. lentWith (countsOf q) (formTableAfter (3 * mostFormulas) (read q)) x steps) (l ∙ ap (lineTableAfter mostPolicyLines) d) ∙
+        let t : lentWith c forms policy steps ≡ lentOf (3 * mostFormulas) mostPolicyLines (2 * mostSteps) q =
+        ap (λ x. lentWith x forms policy steps) (sym k) ∙
+        ap (λ x. lentWith (countsOf q) x policy steps) (f ∙ ap (formTableAfter (3 * mostFormulas)) d) ∙
+        ap (λ x. lentWith (countsOf q) (formTableAfter (3 * mostFormulas) (read q)) x steps) (l ∙ ap (policyTableAfter mostPolicyLines) d) ∙
         ap
-        (λ x. lentWith (countsOf q) (formTableAfter (3 * mostFormulas) (read q)) (lineTableAfter mostPolicyLines (read q)) x)
+        (λ x. lentWith (countsOf q) (formTableAfter (3 * mostFormulas) (read q)) (policyTableAfter mostPolicyLines (read q)) x)
         (p ∙ ap (stepTableAfter (2 * mostSteps)) d) ∙
         lent-is q in
         let b = judge (lentOf (3 * mostFormulas) mostPolicyLines (2 * mostSteps) q) in

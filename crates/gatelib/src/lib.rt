@@ -12,6 +12,7 @@ pub struct Printed {
     pub steps: u16,
 }
 
+// Called on a refusal alone: nothing reaches the first case.
 fn unread_by(got: Reading) -> Printed
     ensures { λ r. ⌜ r ≡ unreadOf got ⌝ }
 {
@@ -33,13 +34,13 @@ pub fn gate(file: &[u8]) -> Printed
     ensures { λ r. ⌜ r ≡ printedOf (gate' (now (file .entry))) ⌝ }
 {
     let mut forms = [0u16; common::FORM_ROOM];
-    let mut lines = [0u16; common::POLICY_ROOM];
+    let mut policy = [0u16; common::POLICY_ROOM];
     let mut steps = [0u16; common::STEP_ROOM];
-    let got = reader::read_request(file, &mut forms, &mut lines, &mut steps);
+    let got = reader::read_request(file, &mut forms, &mut policy, &mut steps);
     let Reading::Read(counts) = got else {
         return unread_by(got);
     };
-    let a = judge::judge(counts, &forms, &lines, &steps);
+    let a = judge::judge(counts, &forms, &policy, &steps);
     Printed {
         answer: a.refusal,
         place: a.place,

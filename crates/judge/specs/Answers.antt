@@ -1,6 +1,6 @@
 -- Document 01's number and place in the judge's answer, for each case of what it is made of.
-use Rattle.tables.specs.declared.Checked.{Checked}
-use Rattle.tables.specs.declared.Checked.the-variants as checked
+use Rattle.checks.specs.declared.Checked.{Checked}
+use Rattle.checks.specs.declared.Checked.the-variants as checked
 use Rattle.machine.specs.declared.Walked.{Walked}
 use Rattle.machine.specs.declared.Walked.the-variants as walked
 use Rattle.common.specs.declared.Answer.{Answer}

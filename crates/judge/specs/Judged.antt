@@ -7,8 +7,8 @@ use Rattle.scope.specs.Call.Tables.{Lent, requestOf}
 use Rattle.scope.specs.Call.Checked.{checked}
 use Rattle.scope.specs.Call.Judge.{stepsAnswer, judge, else}
 use Rattle.common.specs.declared.Answer.{Answer as Returned}
-use Rattle.tables.specs.declared.Checked.the-variants.{Fine, Refused}
-use Rattle.tables.specs.Met.{checkedOf}
+use Rattle.checks.specs.declared.Checked.the-variants.{Fine, Refused}
+use Rattle.checks.specs.Met.{checkedOf}
 use Rattle.machine.specs.declared.Walked.{Walked}
 use Rattle.machine.specs.declared.Walked.the-variants as walked
 use Rattle.machine.specs.Machine.{ran, walkedAnswer}
@@ -43,7 +43,7 @@ walked-is walked.Granted = refl
 walked-is (walked.Refused r) = refl
 
 pub walk-answers : (t : Lent) → checkedOf (checked t) ≡ Fine →
-    walkedTo (ran (t .formTable) (t .lineTable) (t .stepTable) (t .lines) (t .goal) (t .steps)) ≡ answerOf (judge t)
+    walkedTo (ran (t .formTable) (t .policyTable) (t .stepTable) (t .policy) (t .goal) (t .steps)) ≡ answerOf (judge t)
 walk-answers t e =
     let c = fine-zero t e in
     let j : judge t ≡ stepsAnswer (requestOf t) = judge-law t ∙ ap (λ a. else a (stepsAnswer (requestOf t))) c ∙ else-passes 0 (stepsAnswer (requestOf t)) in

@@ -1,15 +1,16 @@
 // The judge: the checks over tables and counts, and then the answers about steps. It writes nowhere.
 ghost use mathlib.Core.Path.{_≡_};
 ghost use Rattle.scope.specs.Call.Judge.{judge as judge'};
-ghost use Rattle.tables.specs.Met.{lentWith};
+ghost use Rattle.checks.specs.Met.{lentWith};
 ghost use Rattle.common.specs.Answers.{answerOf};
 ghost use Rattle.judge.specs.Answers.{refusalAnswer, walkedTo};
+use checks::Checked;
 use common::Answer;
 use common::Counts;
 use machine::Walked;
 use machine::walking;
-use tables::Checked;
 
+// Called on a refusal alone: nothing reaches the first case.
 fn refused_by(checks: Checked) -> Answer
     ensures { λ r. ⌜ r ≡ refusalAnswer checks ⌝ }
 {
@@ -40,13 +41,20 @@ fn walked_to(walked: Walked) -> Answer
     }
 }
 
-pub fn judge(counts: Counts, forms: &[u16], lines: &[u16], steps: &[u16]) -> Answer
-    ensures { λ r. ⌜ r ≡ answerOf (judge' (lentWith counts (now (forms .entry)) (now (lines .entry)) (now (steps .entry)))) ⌝ }
+pub fn judge(counts: Counts, forms: &[u16], policy: &[u16], steps: &[u16]) -> Answer
+    ensures { λ r. ⌜ r ≡ answerOf (judge' (lentWith counts (now (forms .entry)) (now (policy .entry)) (now (steps .entry)))) ⌝ }
 {
-    let checks = tables::check_tables(counts, forms, lines, steps);
+    let checks = checks::check_tables(counts, forms, policy, steps);
     let Checked::Fine = checks else {
         return refused_by(checks);
     };
-    let walked = walking::walk_steps(forms, lines, steps, counts.lines, counts.goal, counts.steps);
+    let walked = walking::walk_steps(
+        forms,
+        policy,
+        steps,
+        counts.policy,
+        counts.goal,
+        counts.steps,
+    );
     walked_to(walked)
 }

@@ -14,11 +14,11 @@ use Rattle.scope.specs.File.Text.{requestText}
 use Rattle.scope.specs.File.Reader.{Outcome, read, refused}
 use Rattle.scope.specs.Call.Tables.{Lent, requestOf, lentOf, padded}
 use Rattle.scope.specs.Call.Checked.{checked}
-use Rattle.scope.specs.Call.Calls.{written, unwritten, writtenIf, writing, writtenAnswer, textIn, outputAfter, reading, outcomeAnswer, requestIn, formTableAfter, lineTableAfter, stepTableAfter, lentAfter}
+use Rattle.scope.specs.Call.Calls.{written, unwritten, writtenIf, writing, writtenAnswer, textIn, outputAfter, reading, outcomeAnswer, requestIn, formTableAfter, policyTableAfter, stepTableAfter, lentAfter}
 use Rattle.trip.specs.Statements.{trip-write, trip-read}
 use Rattle.demands.specs.Firm.{reading-firm}
 use Rattle.common.specs.declared.Counts.{Counts}
-use Rattle.tables.specs.Met.{lentWith}
+use Rattle.checks.specs.Met.{lentWith}
 use Rattle.reader.specs.Answers.{countsOf}
 use Rattle.writer.specs.declared.Writing.{Writing}
 use Rattle.writer.specs.Writing.{writingOf, writing-is}
@@ -34,7 +34,7 @@ pub record Wrote (counts : Counts) (forms policy steps out : List ℕ) (r : Writ
 pub record Did-read (text forms policy steps : List ℕ) (r : Read) (formsAfter policyAfter stepsAfter : List ℕ) : Type 0 where
   pub answered : r ≡ readOf (reading (length forms) (length policy) (length steps) text)
   pub formsLeft : formsAfter ≡ formTableAfter (length forms) (reading (length forms) (length policy) (length steps) text)
-  pub policyLeft : policyAfter ≡ lineTableAfter (length policy) (reading (length forms) (length policy) (length steps) text)
+  pub policyLeft : policyAfter ≡ policyTableAfter (length policy) (reading (length forms) (length policy) (length steps) text)
   pub stepsLeft : stepsAfter ≡ stepTableAfter (length steps) (reading (length forms) (length policy) (length steps) text)
 
 -- Results that are equal to the same are equal: a contract of equations allows one result only.
@@ -82,7 +82,7 @@ text-stands {counts} {forms} {policy} {steps} {out} {r} {o} w =
 
 -- Counts, goal and tables as a reading of a request leaves them.
 left-counts : (t : Lent) (q : Request) (f p s : ℕ) → lentOf f p s q ≡ t → countsOf q
-    ≡ record { principals = t .principals; atoms = t .atoms; formulas = t .formulas; lines = t .lines; goal = t .goal; steps = t .steps }
+    ≡ record { principals = t .principals; atoms = t .atoms; formulas = t .formulas; policy = t .policy; goal = t .goal; steps = t .steps }
 unfolding lentOf
 left-counts t q f p s e =
     λ i.
@@ -90,7 +90,7 @@ left-counts t q f p s e =
       principals = e i .principals;
       atoms = e i .atoms;
       formulas = e i .formulas;
-      lines = e i .lines;
+      policy = e i .policy;
       goal = e i .goal;
       steps = e i .steps;
     }
@@ -102,7 +102,7 @@ pub written-reads : {counts : Counts} {forms policy steps out : List ℕ} {w : W
     length forms₀ ≡ length forms → length policy₀ ≡ length policy → length steps₀ ≡ length steps →
     Did-read (take (w .length) o) forms₀ policy₀ steps₀ r f p s →
     (r ≡ record { refusal = 0; place = 0; counts = counts }) × (f ≡ forms) × (p ≡ policy) × (s ≡ steps)
-unfolding writingOf readOf refusalIn placeIn outcomeAnswer requestIn lentAfter lentOf formTableAfter lineTableAfter stepTableAfter
+unfolding writingOf readOf refusalIn placeIn outcomeAnswer requestIn lentAfter lentOf formTableAfter policyTableAfter stepTableAfter
 written-reads {counts} {forms} {policy} {steps} {out} {w} {o} {forms₀} {policy₀} {steps₀} {r} {f} {p} {s} a e lf lp ls d =
     let t = lentWith counts forms policy steps in
     let text = take (w .length) o in
@@ -115,7 +115,7 @@ written-reads {counts} {forms} {policy} {steps} {out} {w} {o} {forms₀} {policy
       d .answered ∙ ap readOf same ∙
           ap (λ (c : Counts). record { refusal = 0; place = 0; counts = c }) (left-counts t (requestOf t) (length forms) (length policy) (length steps) whole),
       d .formsLeft ∙ (λ i. formTableAfter (lf i) (same i)) ∙ ap (λ (x : Lent). x .formTable) whole,
-      d .policyLeft ∙ (λ i. lineTableAfter (lp i) (same i)) ∙ ap (λ (x : Lent). x .lineTable) whole,
+      d .policyLeft ∙ (λ i. policyTableAfter (lp i) (same i)) ∙ ap (λ (x : Lent). x .policyTable) whole,
       d .stepsLeft ∙ (λ i. stepTableAfter (ls i) (same i)) ∙ ap (λ (x : Lent). x .stepTable) whole,
     )
 
@@ -123,7 +123,7 @@ written-reads {counts} {forms} {policy} {steps} {out} {w} {o} {forms₀} {policy
 pub read-writes : {text forms policy steps : List ℕ} {r : Read} {f p s out : List ℕ} {w : Writing} {o : List ℕ} →
     Did-read text forms policy steps r f p s → r .refusal ≡ 0 → length text ≤ length out → Wrote (r .counts) f p s out w o →
     (w ≡ record { refusal = 0; place = 0; length = length text }) × (o ≡ padded (length out) text)
-unfolding writingOf writtenAnswer textIn refusalIn placeIn outputAfter readOf outcomeAnswer requestIn lentAfter lentOf formTableAfter lineTableAfter stepTableAfter
+unfolding writingOf writtenAnswer textIn refusalIn placeIn outputAfter readOf outcomeAnswer requestIn lentAfter lentOf formTableAfter policyTableAfter stepTableAfter
 read-writes {text} {forms} {policy} {steps} {r} {f} {p} {s} {out} {w} {o} d e h a =
     go (reading (length forms) (length policy) (length steps) text) refl
   where
@@ -136,7 +136,7 @@ read-writes {text} {forms} {policy} {steps} {r} {f} {p} {s} {out} {w} {o} d e h 
     go (read q) g =
         let counts : r .counts ≡ countsOf q = ap (λ (x : Read). x .counts) (d .answered ∙ ap readOf g) in
         let forms-are = d .formsLeft ∙ ap (formTableAfter (length forms)) g in
-        let policy-is = d .policyLeft ∙ ap (lineTableAfter (length policy)) g in
+        let policy-is = d .policyLeft ∙ ap (policyTableAfter (length policy)) g in
         let steps-are = d .stepsLeft ∙ ap (stepTableAfter (length steps)) g in
         let whole : lentWith (r .counts) f p s ≡ lentAfter (length forms) (length policy) (length steps) (read q) =
         (λ i. lentWith (counts i) (forms-are i) (policy-is i) (steps-are i)) in

@@ -2,9 +2,9 @@
 // them. A slice is a pointer and the count of its elements. None relies on a check made before.
 ghost use mathlib.Core.Path.{_≡_};
 ghost use lib.ListN.{length};
-ghost use Rattle.scope.specs.Call.Calls.{reading, formTableAfter, lineTableAfter, stepTableAfter, writing, outputAfter};
+ghost use Rattle.scope.specs.Call.Calls.{reading, formTableAfter, policyTableAfter, stepTableAfter, writing, outputAfter};
 ghost use Rattle.scope.specs.Call.Judge.{judge as judge', gate as gate'};
-ghost use Rattle.tables.specs.Met.{lentWith};
+ghost use Rattle.checks.specs.Met.{lentWith};
 ghost use Rattle.writer.specs.Writing.{writingOf};
 ghost use Rattle.common.specs.Answers.{answerOf};
 ghost use Rattle.gatelib.specs.Printing.{printedOf};
@@ -39,7 +39,7 @@ fn read_in(got: Reading) -> Read
                 principals: 0,
                 atoms: 0,
                 formulas: 0,
-                lines: 0,
+                policy: 0,
                 goal: 0,
                 steps: 0,
             },
@@ -56,7 +56,7 @@ pub extern "C" fn peraduksi_read(
 ) -> Read
     ensures { λ r. ⌜ r ≡ readOf (reading (length (now (forms .entry))) (length (now (policy .entry))) (length (now (steps .entry))) (now (text .entry))) ⌝ }
     ensures { λ _. ⌜ now (forms .exit) ≡ formTableAfter (length (now (forms .entry))) (reading (length (now (forms .entry))) (length (now (policy .entry))) (length (now (steps .entry))) (now (text .entry))) ⌝ }
-    ensures { λ _. ⌜ now (policy .exit) ≡ lineTableAfter (length (now (policy .entry))) (reading (length (now (forms .entry))) (length (now (policy .entry))) (length (now (steps .entry))) (now (text .entry))) ⌝ }
+    ensures { λ _. ⌜ now (policy .exit) ≡ policyTableAfter (length (now (policy .entry))) (reading (length (now (forms .entry))) (length (now (policy .entry))) (length (now (steps .entry))) (now (text .entry))) ⌝ }
     ensures { λ _. ⌜ now (steps .exit) ≡ stepTableAfter (length (now (steps .entry))) (reading (length (now (forms .entry))) (length (now (policy .entry))) (length (now (steps .entry))) (now (text .entry))) ⌝ }
 {
     let got = reader::read_request(text, forms, policy, steps);

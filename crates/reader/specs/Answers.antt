@@ -40,7 +40,7 @@ countsOf q =
       principals = q .principals;
       atoms = q .atoms;
       formulas = length (q .forms);
-      lines = length (q .lines);
+      policy = length (q .policy);
       goal = q .goal;
       steps = length (q .steps);
     }
@@ -95,7 +95,7 @@ formulasOf n (ok f rest) = Head.Read (f .principals) (f .atoms) (length (f .form
 formulasOf n (bad a) = Head.Refused (answerOf a)
 
 unfoldable pub policySection : ℕ → Read PolicyRead → Policy
-policySection n (ok p rest) = Policy.Read (length (p .lines)) (p .goal) (n - length rest)
+policySection n (ok p rest) = Policy.Read (length (p .policy)) (p .goal) (n - length rest)
 policySection n (bad a) = Policy.Refused (answerOf a)
 
 unfoldable pub stepSection : ℕ → Read (List Row) → Steps

@@ -98,17 +98,17 @@ formulas-lost n (bad (answer k i)) x e =
     ap {B = Read Formulas} (λ (y : Returned). bad (answerIs y)) f
 
 pub record Policy-got (n : ℕ) (r : Read PolicyRead) (c g at : ℕ) : Type 0 where
-  pub lines : List ℕ
+  pub policy : List ℕ
   pub rest : List ℕ
-  pub is : r ≡ ok record { lines = lines; goal = g } rest
-  pub count : c ≡ length lines
+  pub is : r ≡ ok record { policy = policy; goal = g } rest
+  pub count : c ≡ length policy
   pub place : at ≡ n - length rest
 
 pub policy-got : (n : ℕ) (r : Read PolicyRead) (c g at : ℕ) → policySection n r ≡ Policy.Read c g at → Policy-got n r c g at
 unfolding policySection
 policy-got n (ok p rest) c g at e =
     let x : p .goal ≡ g = cc in
-    record { lines = p .lines; rest = rest; is = λ i. ok record { lines = p .lines; goal = x i } rest; count = cc; place = cc }
+    record { policy = p .policy; rest = rest; is = λ i. ok record { policy = p .policy; goal = x i } rest; count = cc; place = cc }
 policy-got n (bad (answer k i)) c g at e = never cc
 
 pub policy-lost : (n : ℕ) (r : Read PolicyRead) (x : Returned) → policySection n r ≡ Policy.Refused x → r ≡ bad (answerIs x)
@@ -166,10 +166,10 @@ pub formulas-read : (n : ℕ) (r : Read Formulas) (p a f at : ℕ) (forms : List
 unfolding formulasOf
 formulas-read n r p a f at forms rest e c is = rw (e, c, is) refl
 
-pub policy-read : (n : ℕ) (r : Read PolicyRead) (c g at : ℕ) (lines rest : List ℕ) → r ≡ ok record { lines = lines; goal = g } rest
-    → c ≡ length lines → at ≡ n - length rest → Policy.Read c g at ≡ policySection n r
+pub policy-read : (n : ℕ) (r : Read PolicyRead) (c g at : ℕ) (policy rest : List ℕ) → r ≡ ok record { policy = policy; goal = g } rest
+    → c ≡ length policy → at ≡ n - length rest → Policy.Read c g at ≡ policySection n r
 unfolding policySection
-policy-read n r c g at lines rest e k is = rw (e, k, is) refl
+policy-read n r c g at policy rest e k is = rw (e, k, is) refl
 
 pub steps-read : (n : ℕ) (r : Read (List Row)) (c at : ℕ) (rows : List Row) (rest : List ℕ) → r ≡ ok rows rest
     → c ≡ length rows → at ≡ n - length rest → Steps.Read c at ≡ stepSection n r

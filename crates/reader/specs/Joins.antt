@@ -15,7 +15,7 @@ use Rattle.scope.specs.File.Line.{Read, ok, bad, shapedAs, line, andThen, _>>=_
 use Rattle.scope.specs.Limits.{mostFormulas, mostPolicyLines, mostSteps, clausesAt, clauseAt, goalAt, stepsAt}
 use Rattle.scope.specs.File.Refusals.{demand, countRefusal, clausesRefusal, stepsRefusal, clauseRefusal, goalRefusal}
 use Rattle.scope.specs.File.Text.{clausesLine, clauseLine, goalLine, stepsLine}
-use Rattle.scope.specs.Call.Tables.{formEntry, lineEntry, stepEntry, table, unpack}
+use Rattle.scope.specs.Call.Tables.{formEntry, policyEntry, stepEntry, table, unpack}
 use Rattle.scope.specs.File.Reader.{formItem, clauseItem, stepItem}
 use Rattle.common.specs.Answers.{answerIs}
 use Rattle.classes.specs.Class.{goalIn, policyIn, classTable}
@@ -49,24 +49,24 @@ many-clause-ends cs n f = many-ends (classedItem cs n) f [] (λ b. line-ends _ _
 
 -- The formulas: the first four lines, then the `form=` lines.
 module _ (s : List ℕ) where
-  formulas-1 : (k i : ℕ) → headPart s ≡ bad (answer k i) → formulasPart s ≡ bad (answer k i)
+  formulas-at-head : (k i : ℕ) → headPart s ≡ bad (answer k i) → formulasPart s ≡ bad (answer k i)
   unfolding formulasPart _>>=_ andThen
-  formulas-1 k i e = rw e refl
+  formulas-at-head k i e = rw e refl
 
-  formulas-2 : (h : Counted) (t : List ℕ) (k i : ℕ) → headPart s ≡ ok h t → many (formItem (h .principals) (h .atoms))
+  formulas-at-forms : (h : Counted) (t : List ℕ) (k i : ℕ) → headPart s ≡ ok h t → many (formItem (h .principals) (h .atoms))
       (h .formulas) [] t ≡ bad (answer k i)
       → formulasPart s ≡ bad (answer k i)
   unfolding formulasPart _>>=_ andThen
-  formulas-2 h t k i e f = rw e (rw f refl)
+  formulas-at-forms h t k i e f = rw e (rw f refl)
 
-  formulas-3 : (h : Counted) (t : List ℕ) (forms : List Row) (rest : List ℕ) → headPart s ≡ ok h t
+  formulas-whole : (h : Counted) (t : List ℕ) (forms : List Row) (rest : List ℕ) → headPart s ≡ ok h t
       → many (formItem (h .principals) (h .atoms)) (h .formulas) [] t ≡ ok forms rest
       → formulasPart s ≡ ok record { principals = h .principals; atoms = h .atoms; forms = forms } rest
   unfolding formulasPart _>>=_ andThen
-  formulas-3 h t forms rest e f = rw e (rw f refl)
+  formulas-whole h t forms rest e f = rw e (rw f refl)
 
   pub formulas-stopped : (x : Returned) → headOf (length s) (headPart s) ≡ Head.Refused x → formulasPart s ≡ bad (answerIs x)
-  formulas-stopped x e = formulas-1 (x .refusal) (x .place) (head-lost (length s) (headPart s) x e)
+  formulas-stopped x e = formulas-at-head (x .refusal) (x .place) (head-lost (length s) (headPart s) x e)
 
 -- The first four lines as the code has them.
 pub record Head-kept (s : List ℕ) : Type 0 where
@@ -102,7 +102,7 @@ module _ {s : List ℕ} (k : Head-kept s) where
   pub forms-stopped : (x : Returned) → sectionOf (length (behindHead k)) (formsRead k) ≡ Section.Refused x → formulasPart s ≡ bad
       (answerIs x)
   forms-stopped x m =
-      formulas-2 s counts (headRead .rest) (x .refusal) (x .place) (headRead .is)
+      formulas-at-forms s counts (headRead .rest) (x .refusal) (x .place) (headRead .is)
       (sym same-forms ∙ section-lost (length (behindHead k)) (formsRead k) x m)
 
   module _ (m : Section-kept formEntry (length (behindHead k)) (formsRead k)) where
@@ -123,7 +123,7 @@ module _ {s : List ℕ} (k : Head-kept s) where
     forms-inside = omega (arith, forms-taken)
 
     forms-are : formulasPart s ≡ ok record { principals = k .principals; atoms = k .atoms; forms = formsGot .things } (formsGot .rest)
-    forms-are = formulas-3 s counts (headRead .rest) (formsGot .things) (formsGot .rest) (headRead .is) (sym same-forms ∙ formsGot .is)
+    forms-are = formulas-whole s counts (headRead .rest) (formsGot .things) (formsGot .rest) (headRead .is) (sym same-forms ∙ formsGot .is)
 
     pub forms-joined : (Head.Read (k .principals) (k .atoms) (k .count) (k .at + m .at) ≡ formulasOf (length s) (formulasPart s)) ×
         ((f : Formulas) (rest : List ℕ) → formulasPart s ≡ ok f rest → m .numbers ≡ table formEntry (m .len) (f .forms))
@@ -165,28 +165,28 @@ module _ (t : List ℕ) (n : ℕ) (small : n ≤ mostFormulas) where
 
 -- The policy: a count, that many `clause=` lines, the goal.
 module _ (forms : List Row) (s : List ℕ) where
-  policy-1 : (k i : ℕ) → line clausesLine clausesRefusal (clausesAt (length forms)) s ≡ bad (answer k i) → policyPart forms s ≡ bad (answer k i)
+  policy-at-count : (k i : ℕ) → line clausesLine clausesRefusal (clausesAt (length forms)) s ≡ bad (answer k i) → policyPart forms s ≡ bad (answer k i)
   unfolding policyPart _>>=_ andThen
-  policy-1 k i e = rw e refl
+  policy-at-count k i e = rw e refl
 
-  policy-2 : (c : ℕ) (t : List ℕ) (k i : ℕ) → line clausesLine clausesRefusal (clausesAt (length forms)) s ≡ ok c t → many
+  policy-at-clauses : (c : ℕ) (t : List ℕ) (k i : ℕ) → line clausesLine clausesRefusal (clausesAt (length forms)) s ≡ ok c t → many
       (clauseItem forms) c [] t ≡ bad (answer k i)
       → policyPart forms s ≡ bad (answer k i)
   unfolding policyPart _>>=_ andThen
-  policy-2 c t k i e f = rw e (rw f refl)
+  policy-at-clauses c t k i e f = rw e (rw f refl)
 
-  policy-3 : (c : ℕ) (t : List ℕ) (lines u : List ℕ) (k i : ℕ) → line clausesLine clausesRefusal (clausesAt (length forms)) s ≡ ok c t
-      → many (clauseItem forms) c [] t ≡ ok lines u
-      → line goalLine (goalRefusal forms) (goalAt (length forms) (length lines)) u ≡ bad (answer k i) → policyPart forms s ≡ bad (answer k i)
+  policy-at-goal : (c : ℕ) (t : List ℕ) (policy u : List ℕ) (k i : ℕ) → line clausesLine clausesRefusal (clausesAt (length forms)) s ≡ ok c t
+      → many (clauseItem forms) c [] t ≡ ok policy u
+      → line goalLine (goalRefusal forms) (goalAt (length forms) (length policy)) u ≡ bad (answer k i) → policyPart forms s ≡ bad (answer k i)
   unfolding policyPart _>>=_ andThen
-  policy-3 c t lines u k i e f g = rw e (rw f (rw g refl))
+  policy-at-goal c t policy u k i e f g = rw e (rw f (rw g refl))
 
-  policy-4 : (c : ℕ) (t : List ℕ) (lines u : List ℕ) (goal : ℕ) (rest : List ℕ) → line clausesLine clausesRefusal
-      (clausesAt (length forms)) s ≡ ok c t → many (clauseItem forms) c [] t ≡ ok lines u
-      → line goalLine (goalRefusal forms) (goalAt (length forms) (length lines)) u ≡ ok goal rest → policyPart forms s
-      ≡ ok record { lines = lines; goal = goal } rest
+  policy-whole : (c : ℕ) (t : List ℕ) (policy u : List ℕ) (goal : ℕ) (rest : List ℕ) → line clausesLine clausesRefusal
+      (clausesAt (length forms)) s ≡ ok c t → many (clauseItem forms) c [] t ≡ ok policy u
+      → line goalLine (goalRefusal forms) (goalAt (length forms) (length policy)) u ≡ ok goal rest → policyPart forms s
+      ≡ ok record { policy = policy; goal = goal } rest
   unfolding policyPart _>>=_ andThen
-  policy-4 c t lines u goal rest e f g = rw e (rw f (rw g refl))
+  policy-whole c t policy u goal rest e f g = rw e (rw f (rw g refl))
 
 -- The formulas in a table.
 abbrev rows : List ℕ → ℕ → List Row
@@ -196,7 +196,7 @@ pub clauses-stopped : (numbers : List ℕ) (n : ℕ) (s : List ℕ) (k : ℕ)
     → numberLineOf (shapedAs (countRefusal 0 mostPolicyLines) (number (valueOf (bytes "clauses=") s))) ≡ NumberLine.Refused k
     → policyPart (unpack formEntry n numbers) s ≡ bad (answer k (clausesAt n))
 clauses-stopped numbers n s k e =
-    policy-1 (rows numbers n) s k (clausesAt n)
+    policy-at-count (rows numbers n) s k (clausesAt n)
     (number-bad "clauses=" clausesRefusal (clausesAt (length (rows numbers n))) s k e ∙
     ap (λ j. bad (answer k (clausesAt j))) (unpack-length formEntry n numbers))
 
@@ -223,10 +223,10 @@ module _ {numbers : List ℕ} {n : ℕ} {s : List ℕ} (k : Clauses-kept numbers
   pub lines-stopped : (x : Returned) → sectionOf (length (k .rest)) (linesRead k) ≡ Section.Refused x → policyPart (unpack formEntry n numbers) s
       ≡ bad (answerIs x)
   lines-stopped x m =
-      policy-2 (rows numbers n) s (k .count) (k .rest) (x .refusal) (x .place) first
+      policy-at-clauses (rows numbers n) s (k .count) (k .rest) (x .refusal) (x .place) first
       (sym same-items ∙ section-lost (length (k .rest)) (linesRead k) x m)
 
-  module _ (m : Section-kept lineEntry (length (k .rest)) (linesRead k)) where
+  module _ (m : Section-kept policyEntry (length (k .rest)) (linesRead k)) where
     linesGot : Section-got (length (k .rest)) (linesRead k) (m .at)
     linesGot = section-got (length (k .rest)) (linesRead k) (m .at) (m .is)
 
@@ -255,7 +255,7 @@ module _ {numbers : List ℕ} {n : ℕ} {s : List ℕ} (k : Clauses-kept numbers
     goal-stopped j e =
         let place : goalAt (length (rows numbers n)) (length (linesGot .things)) ≡ goalAt n (k .count) = omega
         (arith, many-lines, unpack-length formEntry n numbers) in
-        policy-3 (rows numbers n) s (k .count) (k .rest) (linesGot .things) (linesGot .rest) j (goalAt n (k .count)) first (sym same-items ∙ linesGot .is)
+        policy-at-goal (rows numbers n) s (k .count) (k .rest) (linesGot .things) (linesGot .rest) j (goalAt n (k .count)) first (sym same-items ∙ linesGot .is)
         (number-bad "goal=" (goalRefusal (rows numbers n)) (goalAt (length (rows numbers n)) (length (linesGot .things))) (linesGot .rest) j
         (goal-asked (NumberLine.Refused j) e) ∙ ap (λ h. bad (answer j h)) place)
 
@@ -273,36 +273,36 @@ module _ {numbers : List ℕ} {n : ℕ} {s : List ℕ} (k : Clauses-kept numbers
             rest-short (linesGot .rest) rest goal-behind,
           )
 
-      policy-is : policyPart (rows numbers n) s ≡ ok record { lines = linesGot .things; goal = goal } rest
-      policy-is = policy-4 (rows numbers n) s (k .count) (k .rest) (linesGot .things) (linesGot .rest) goal rest first (sym same-items ∙ linesGot .is)
+      policy-is : policyPart (rows numbers n) s ≡ ok record { policy = linesGot .things; goal = goal } rest
+      policy-is = policy-whole (rows numbers n) s (k .count) (k .rest) (linesGot .things) (linesGot .rest) goal rest first (sym same-items ∙ linesGot .is)
           (number-ok "goal=" (goalRefusal (rows numbers n)) (goalAt (length (rows numbers n)) (length (linesGot .things))) (linesGot .rest) rest goal
           goal-behind (goal-asked (NumberLine.Number goal) e))
 
       pub policy-joined : (Policy.Read (k .count) goal (length s - length rest) ≡ policySection (length s) (policyPart (unpack formEntry n numbers) s))
           ×
-          ((p : PolicyRead) (over : List ℕ) → policyPart (unpack formEntry n numbers) s ≡ ok p over → m .numbers ≡ table lineEntry (m .len)
-          (p .lines))
+          ((p : PolicyRead) (over : List ℕ) → policyPart (unpack formEntry n numbers) s ≡ ok p over → m .numbers ≡ table policyEntry (m .len)
+          (p .policy))
       policy-joined = (
         policy-read (length s) (policyPart (rows numbers n) s) (k .count) goal (length s - length rest) (linesGot .things) rest policy-is
             (sym many-lines) refl,
-        λ p over h. m .stored (linesGot .things) (linesGot .rest) (linesGot .is) ∙ ap (λ y. table lineEntry (m .len) (y .lines))
-            (same-things (policyPart (rows numbers n) s) record { lines = linesGot .things; goal = goal } p rest over policy-is h),
+        λ p over h. m .stored (linesGot .things) (linesGot .rest) (linesGot .is) ∙ ap (λ y. table policyEntry (m .len) (y .policy))
+            (same-things (policyPart (rows numbers n) s) record { policy = linesGot .things; goal = goal } p rest over policy-is h),
       )
 
 -- The steps: a count, that many `step=` lines.
 module _ (formulas clauses : ℕ) (s : List ℕ) where
-  steps-1 : (k i : ℕ) → line stepsLine stepsRefusal (stepsAt formulas clauses) s ≡ bad (answer k i) → stepsPart formulas clauses s ≡ bad (answer k i)
+  steps-at-count : (k i : ℕ) → line stepsLine stepsRefusal (stepsAt formulas clauses) s ≡ bad (answer k i) → stepsPart formulas clauses s ≡ bad (answer k i)
   unfolding stepsPart _>>=_ andThen
-  steps-1 k i e = rw e refl
+  steps-at-count k i e = rw e refl
 
-  steps-2 : (c : ℕ) (t : List ℕ) → line stepsLine stepsRefusal (stepsAt formulas clauses) s ≡ ok c t → stepsPart formulas clauses s ≡ many
+  steps-whole : (c : ℕ) (t : List ℕ) → line stepsLine stepsRefusal (stepsAt formulas clauses) s ≡ ok c t → stepsPart formulas clauses s ≡ many
       (stepItem formulas clauses) c [] t
   unfolding stepsPart _>>=_ andThen
-  steps-2 c t e = rw e refl
+  steps-whole c t e = rw e refl
 
   pub steps-stopped : (k : ℕ) → numberLineOf (shapedAs (countRefusal 1 mostSteps) (number (valueOf (bytes "steps=") s))) ≡ NumberLine.Refused k
       → stepsPart formulas clauses s ≡ bad (answer k (stepsAt formulas clauses))
-  steps-stopped k e = steps-1 k (stepsAt formulas clauses) (number-bad "steps=" stepsRefusal (stepsAt formulas clauses) s k e)
+  steps-stopped k e = steps-at-count k (stepsAt formulas clauses) (number-bad "steps=" stepsRefusal (stepsAt formulas clauses) s k e)
 
 -- The count of steps and the text behind it, as the code has them.
 pub record Steps-counted (formulas clauses : ℕ) (s : List ℕ) : Type 0 where
@@ -316,7 +316,7 @@ rowsRead {formulas} {clauses} k = many (stepItem formulas clauses) (k .count) []
 
 module _ {formulas clauses : ℕ} {s : List ℕ} (k : Steps-counted formulas clauses s) where
   whole : stepsPart formulas clauses s ≡ rowsRead k
-  whole = steps-2 formulas clauses s (k .count) (k .rest)
+  whole = steps-whole formulas clauses s (k .count) (k .rest)
       (number-ok "steps=" stepsRefusal (stepsAt formulas clauses) s (k .rest) (k .count) (k .behind) (k .counted))
 
   pub rows-stopped : (x : Returned) → sectionOf (length (k .rest)) (rowsRead k) ≡ Section.Refused x → stepsPart formulas clauses s ≡ bad

@@ -14,8 +14,8 @@ use Rattle.scope.specs.File.Request.{Row, Request}
 use Rattle.scope.specs.File.Line.{Read, ok, bad, andThen, _>>=_}
 use Rattle.scope.specs.Limits.{mostBytes, mostFormulas, mostPolicyLines, mostSteps, endAt}
 use Rattle.scope.specs.File.Reader.{Outcome, read, refused, ended, readRequest}
-use Rattle.scope.specs.Call.Tables.{formEntry, lineEntry, stepEntry, table, unpack, hasRoom}
-use Rattle.scope.specs.Call.Calls.{reading, requestIn, formTableAfter, lineTableAfter, stepTableAfter}
+use Rattle.scope.specs.Call.Tables.{formEntry, policyEntry, stepEntry, table, unpack, hasRoom}
+use Rattle.scope.specs.Call.Calls.{reading, requestIn, formTableAfter, policyTableAfter, stepTableAfter}
 use Rattle.common.specs.Answers.{answerOf, answerIs}
 use Rattle.common.specs.declared.Counts.{Counts}
 use Rattle.common.specs.declared.Answer.{Answer as Returned}
@@ -43,7 +43,7 @@ module _ (t : List ℕ) where
   read-refused k i e = rw (request-sections t, e) refl
 
   read-over : (q : Request) (v : List ℕ) → sections t ≡ ok q v → 0 < length v → readRequest t ≡ refused (answer 6
-      (endAt (length (q .forms)) (length (q .lines)) (length (q .steps))))
+      (endAt (length (q .forms)) (length (q .policy)) (length (q .steps))))
   unfolding readRequest ended
   read-over q [] e h = absurd (omega arith)
   read-over q (b ∷ v) e h = rw (request-sections t, e) refl
@@ -53,27 +53,27 @@ module _ (t : List ℕ) where
   read-whole q [] e h = rw (request-sections t, e) refl
   read-whole q (b ∷ v) e h = absurd (omega arith)
 
-  whole-1 : (k i : ℕ) → formulasPart t ≡ bad (answer k i) → sections t ≡ bad (answer k i)
+  file-at-formulas : (k i : ℕ) → formulasPart t ≡ bad (answer k i) → sections t ≡ bad (answer k i)
   unfolding sections _>>=_ andThen
-  whole-1 k i a = rw a refl
+  file-at-formulas k i a = rw a refl
 
   module _ (f : Formulas) (s : List ℕ) (a : formulasPart t ≡ ok f s) where
-    whole-2 : (k i : ℕ) → policyPart (f .forms) s ≡ bad (answer k i) → sections t ≡ bad (answer k i)
+    file-at-policy : (k i : ℕ) → policyPart (f .forms) s ≡ bad (answer k i) → sections t ≡ bad (answer k i)
     unfolding sections _>>=_ andThen
-    whole-2 k i b = rw a (rw b refl)
+    file-at-policy k i b = rw a (rw b refl)
 
     module _ (p : PolicyRead) (u : List ℕ) (b : policyPart (f .forms) s ≡ ok p u) where
-      whole-3 : (k i : ℕ) → stepsPart (length (f .forms)) (length (p .lines)) u ≡ bad (answer k i) → sections t ≡ bad (answer k i)
+      file-at-steps : (k i : ℕ) → stepsPart (length (f .forms)) (length (p .policy)) u ≡ bad (answer k i) → sections t ≡ bad (answer k i)
       unfolding sections _>>=_ andThen
-      whole-3 k i c = rw a (rw b (rw c refl))
+      file-at-steps k i c = rw a (rw b (rw c refl))
 
-      whole-4 : (rows : List Row) (v : List ℕ) → stepsPart (length (f .forms)) (length (p .lines)) u ≡ ok rows v → sections t ≡ ok
+      file-whole : (rows : List Row) (v : List ℕ) → stepsPart (length (f .forms)) (length (p .policy)) u ≡ ok rows v → sections t ≡ ok
           (requestWith f p rows) v
       unfolding sections _>>=_ andThen
-      whole-4 rows v c = rw a (rw b (rw c refl))
+      file-whole rows v c = rw a (rw b (rw c refl))
 
   pub formulas-end : (x : Returned) → formulasOf (length t) (formulasPart t) ≡ Head.Refused x → readRequest t ≡ refused (answerIs x)
-  formulas-end x e = read-refused (x .refusal) (x .place) (whole-1 (x .refusal) (x .place) (formulas-lost (length t) (formulasPart t) x e))
+  formulas-end x e = read-refused (x .refusal) (x .place) (file-at-formulas (x .refusal) (x .place) (formulas-lost (length t) (formulasPart t) x e))
 
 -- The formulas, the policy and the steps of a text as the calls that read them left them: the counts, where the next begins, and the table.
 pub record Formulas-kept (t : List ℕ) : Type 0 where
@@ -100,7 +100,7 @@ pub record Policy-kept {t : List ℕ} (k : Formulas-kept t) : Type 0 where
   pub is : policySection (length (behindFormulas k)) (policyRead k) ≡ Policy.Read count goal at
   pub numbers : List ℕ
   pub len : ℕ
-  pub stored : (p : PolicyRead) (rest : List ℕ) → policyRead k ≡ ok p rest → numbers ≡ table lineEntry len (p .lines)
+  pub stored : (p : PolicyRead) (rest : List ℕ) → policyRead k ≡ ok p rest → numbers ≡ table policyEntry len (p .policy)
 
 abbrev pub behindPolicy : {t : List ℕ} {k : Formulas-kept t} → Policy-kept k → List ℕ
 behindPolicy {t} {k} p = partFrom (p .at) (behindFormulas k)
@@ -141,7 +141,7 @@ module _ {t : List ℕ} (k : Formulas-kept t) where
       ≡ refused (answerIs x)
   policy-end x d =
       read-refused t (x .refusal) (x .place)
-      (whole-2 t formulasGot (fg .rest) (fg .is) (x .refusal) (x .place)
+      (file-at-policy t formulasGot (fg .rest) (fg .is) (x .refusal) (x .place)
       (sym same-policy ∙ policy-lost (length (behindFormulas k)) (policyRead k) x d))
 
   module _ (p : Policy-kept k) where
@@ -150,7 +150,7 @@ module _ {t : List ℕ} (k : Formulas-kept t) where
     pg = policy-got (length (behindFormulas k)) (policyRead k) (p .count) (p .goal) (p .at) (p .is)
 
     abbrev policyGot : PolicyRead
-    policyGot = record { lines = pg .lines; goal = p .goal }
+    policyGot = record { policy = pg .policy; goal = p .goal }
 
     third : behindPolicy p ≡ pg .rest
     third = part-is (policyPart (unpack formEntry (k .count) (k .numbers))) (policy-ends (unpack formEntry (k .count) (k .numbers)))
@@ -159,14 +159,14 @@ module _ {t : List ℕ} (k : Formulas-kept t) where
     pub policy-place : p .at ≤ length (behindFormulas k)
     policy-place = omega (arith, pg .place)
 
-    same-steps : stepsRead p ≡ stepsPart (length (fg .forms)) (length (pg .lines)) (pg .rest)
+    same-steps : stepsRead p ≡ stepsPart (length (fg .forms)) (length (pg .policy)) (pg .rest)
     same-steps = λ i. stepsPart (fg .count i) (pg .count i) (third i)
 
     pub steps-end : (x : Returned) → stepSection (length (behindPolicy p)) (stepsRead p) ≡ Steps.Refused x → readRequest t
         ≡ refused (answerIs x)
     steps-end x h =
         read-refused t (x .refusal) (x .place)
-        (whole-3 t formulasGot (fg .rest) (fg .is) policyGot (pg .rest) (sym same-policy ∙ pg .is) (x .refusal) (x .place)
+        (file-at-steps t formulasGot (fg .rest) (fg .is) policyGot (pg .rest) (sym same-policy ∙ pg .is) (x .refusal) (x .place)
         (sym same-steps ∙ steps-lost (length (behindPolicy p)) (stepsRead p) x h))
 
     module _ (s : Steps-kept p) where
@@ -178,7 +178,7 @@ module _ {t : List ℕ} (k : Formulas-kept t) where
       joined = requestWith formulasGot policyGot (sg .rows)
 
       all-lines : sections t ≡ ok joined (sg .rest)
-      all-lines = whole-4 t formulasGot (fg .rest) (fg .is) policyGot (pg .rest) (sym same-policy ∙ pg .is) (sg .rows) (sg .rest)
+      all-lines = file-whole t formulasGot (fg .rest) (fg .is) policyGot (pg .rest) (sym same-policy ∙ pg .is) (sg .rows) (sg .rest)
           (sym same-steps ∙ sg .is)
 
       over-short : length (sg .rest) ≤ length (behindPolicy p)
@@ -191,7 +191,7 @@ module _ {t : List ℕ} (k : Formulas-kept t) where
           (λ i. refused (answer 6 (endAt (sym (fg .count) i) (sym (pg .count) i) (sym (sg .count) i))))
 
       abbrev counts : Counts
-      counts = record { principals = k .principals; atoms = k .atoms; formulas = k .count; lines = p .count; goal = p .goal; steps = s .count }
+      counts = record { principals = k .principals; atoms = k .atoms; formulas = k .count; policy = p .count; goal = p .goal; steps = s .count }
 
       counts-are : Reading.Read counts ≡ readingOf (read joined)
       unfolding readingOf
@@ -199,7 +199,7 @@ module _ {t : List ℕ} (k : Formulas-kept t) where
         principals = k .principals;
         atoms = k .atoms;
         formulas = fg .count i;
-        lines = pg .count i;
+        policy = pg .count i;
         goal = p .goal;
         steps = sg .count i;
       }
@@ -207,7 +207,7 @@ module _ {t : List ℕ} (k : Formulas-kept t) where
       -- The answer, and the three tables, of a text that ends with its steps.
       pub all-read : length (behindPolicy p) ≤ s .at → (Reading.Read counts ≡ readingOf (readRequest t)) ×
           (((q : Request) → readRequest t ≡ read q → k .numbers ≡ table formEntry (k .len) (q .forms)) ×
-          (((q : Request) → readRequest t ≡ read q → p .numbers ≡ table lineEntry (p .len) (q .lines)) ×
+          (((q : Request) → readRequest t ≡ read q → p .numbers ≡ table policyEntry (p .len) (q .policy)) ×
           ((q : Request) → readRequest t ≡ read q → s .numbers ≡ table stepEntry (s .len) (q .steps))))
       all-read l =
           let o = read-whole t joined (sg .rest) all-lines (omega (arith, sg .place, over-short)) in (
@@ -216,7 +216,7 @@ module _ {t : List ℕ} (k : Formulas-kept t) where
               (λ q z. k .stored formulasGot (fg .rest) (fg .is) ∙ ap (λ u. table formEntry (k .len) (u .forms))
                   (same-request (readRequest t) joined q o z)),
               (
-                (λ q z. p .stored policyGot (pg .rest) (pg .is) ∙ ap (λ u. table lineEntry (p .len) (u .lines))
+                (λ q z. p .stored policyGot (pg .rest) (pg .is) ∙ ap (λ u. table policyEntry (p .len) (u .policy))
                     (same-request (readRequest t) joined q o z)),
                 (λ q z. s .stored (sg .rows) (sg .rest) (sg .is) ∙ ap (λ u. table stepEntry (s .len) (u .steps))
                     (same-request (readRequest t) joined q o z)),
@@ -257,16 +257,16 @@ read-outcome (read q) c e = record { request = q; is = refl }
 read-outcome (refused (answer k i)) c e = never cc
 
 -- 'Order: 13, 1, then lines in order.'
-module _ (forms lines steps : ℕ) (s : List ℕ) where
-  pub no-room : hasRoom forms lines steps ≡ false → reading forms lines steps s ≡ refused (answer 13 0)
+module _ (forms policy steps : ℕ) (s : List ℕ) where
+  pub no-room : hasRoom forms policy steps ≡ false → reading forms policy steps s ≡ refused (answer 13 0)
   unfolding reading
   no-room e = rw e refl
 
-  pub too-long : hasRoom forms lines steps ≡ true → mostBytes < length s → reading forms lines steps s ≡ refused (answer 1 0)
+  pub too-long : hasRoom forms policy steps ≡ true → mostBytes < length s → reading forms policy steps s ≡ refused (answer 1 0)
   unfolding reading
   too-long e h = rw (e, lt-leb (length s) mostBytes h) refl
 
-  pub in-order : hasRoom forms lines steps ≡ true → length s ≤ mostBytes → reading forms lines steps s ≡ readRequest s
+  pub in-order : hasRoom forms policy steps ≡ true → length s ≤ mostBytes → reading forms policy steps s ≡ readRequest s
   unfolding reading
   in-order e h = rw (e, le-leb (length s) mostBytes h) refl
 
@@ -276,9 +276,9 @@ module _ (len : ℕ) (o : Outcome) where
   unfolding formTableAfter requestIn
   forms-zero k i e = rw e (sym (table-none formEntry len))
 
-  lines-zero : (k i : ℕ) → o ≡ refused (answer k i) → replicate len 0 ≡ lineTableAfter len o
-  unfolding lineTableAfter requestIn
-  lines-zero k i e = rw e (sym (table-none lineEntry len))
+  lines-zero : (k i : ℕ) → o ≡ refused (answer k i) → replicate len 0 ≡ policyTableAfter len o
+  unfolding policyTableAfter requestIn
+  lines-zero k i e = rw e (sym (table-none policyEntry len))
 
   steps-zero : (k i : ℕ) → o ≡ refused (answer k i) → replicate len 0 ≡ stepTableAfter len o
   unfolding stepTableAfter requestIn
@@ -288,8 +288,8 @@ module _ (len : ℕ) (o : Outcome) where
   unfolding formTableAfter requestIn
   forms-stored q e = rw e refl
 
-  pub lines-stored : (q : Request) → o ≡ read q → table lineEntry len (q .lines) ≡ lineTableAfter len o
-  unfolding lineTableAfter requestIn
+  pub lines-stored : (q : Request) → o ≡ read q → table policyEntry len (q .policy) ≡ policyTableAfter len o
+  unfolding policyTableAfter requestIn
   lines-stored q e = rw e refl
 
   pub steps-stored : (q : Request) → o ≡ read q → table stepEntry len (q .steps) ≡ stepTableAfter len o
@@ -297,33 +297,33 @@ module _ (len : ℕ) (o : Outcome) where
   steps-stored q e = rw e refl
 
 -- Three tables that are all zero, and what they are andThen a refusal.
-pub record Cleared (forms lines steps : ℕ) : Type 0 where
+pub record Cleared (forms policy steps : ℕ) : Type 0 where
   pub formTable : List ℕ
-  pub lineTable : List ℕ
+  pub policyTable : List ℕ
   pub stepTable : List ℕ
   pub formsClear : formTable ≡ replicate forms 0
-  pub linesClear : lineTable ≡ replicate lines 0
+  pub linesClear : policyTable ≡ replicate policy 0
   pub stepsClear : stepTable ≡ replicate steps 0
 
-pub tables-zero : {forms lines steps : ℕ} (k : Cleared forms lines steps) (o : Outcome) (x : Returned) → o ≡ refused (answerIs x)
-    → (k .formTable ≡ formTableAfter forms o) × ((k .lineTable ≡ lineTableAfter lines o) × (k .stepTable ≡ stepTableAfter steps o))
-tables-zero {forms} {lines} {steps} k o x e = (
+pub tables-zero : {forms policy steps : ℕ} (k : Cleared forms policy steps) (o : Outcome) (x : Returned) → o ≡ refused (answerIs x)
+    → (k .formTable ≡ formTableAfter forms o) × ((k .policyTable ≡ policyTableAfter policy o) × (k .stepTable ≡ stepTableAfter steps o))
+tables-zero {forms} {policy} {steps} k o x e = (
   k .formsClear ∙ forms-zero forms o (x .refusal) (x .place) e,
-  (k .linesClear ∙ lines-zero lines o (x .refusal) (x .place) e, k .stepsClear ∙ steps-zero steps o (x .refusal) (x .place) e),
+  (k .linesClear ∙ lines-zero policy o (x .refusal) (x .place) e, k .stepsClear ∙ steps-zero steps o (x .refusal) (x .place) e),
 )
 
 -- Room for the largest counts.
-pub record Room (forms lines steps : ℕ) : Type 0 where
+pub record Room (forms policy steps : ℕ) : Type 0 where
   pub formRoom : (3 * mostFormulas) ≤ forms
-  pub lineRoom : mostPolicyLines ≤ lines
+  pub lineRoom : mostPolicyLines ≤ policy
   pub stepRoom : (2 * mostSteps) ≤ steps
 
-pub room-is : (forms lines steps : ℕ) → hasRoom forms lines steps ≡ true → Room forms lines steps
+pub room-is : (forms policy steps : ℕ) → hasRoom forms policy steps ≡ true → Room forms policy steps
 unfolding hasRoom both
-room-is forms lines steps e = go (leb (3 * mostFormulas) forms) (leb mostPolicyLines lines) (leb (2 * mostSteps) steps) refl refl refl e
+room-is forms policy steps e = go (leb (3 * mostFormulas) forms) (leb mostPolicyLines policy) (leb (2 * mostSteps) steps) refl refl refl e
   where
-    go : (a b c : Bool) → leb (3 * mostFormulas) forms ≡ a → leb mostPolicyLines lines ≡ b → leb (2 * mostSteps) steps ≡ c → both a (both b c) ≡ true → Room forms lines steps
-    go true true true p q r e = record { formRoom = leb-true (3 * mostFormulas) forms p; lineRoom = leb-true mostPolicyLines lines q; stepRoom = leb-true (2 * mostSteps) steps r }
+    go : (a b c : Bool) → leb (3 * mostFormulas) forms ≡ a → leb mostPolicyLines policy ≡ b → leb (2 * mostSteps) steps ≡ c → both a (both b c) ≡ true → Room forms policy steps
+    go true true true p q r e = record { formRoom = leb-true (3 * mostFormulas) forms p; lineRoom = leb-true mostPolicyLines policy q; stepRoom = leb-true (2 * mostSteps) steps r }
     go true true false p q r e = never cc
     go true false c p q r e = never cc
     go false b c p q r e = never cc

@@ -42,16 +42,16 @@ formulasPart = do
 
 -- The policy lines and the goal.
 pub record PolicyRead : Type 0 where
-  pub lines : List ℕ
+  pub policy : List ℕ
   pub goal : ℕ
 
 unfoldable pub policyPart : List Row → Reader PolicyRead
 unfolding line many _>>=_
 policyPart forms = do
   n ← line clausesLine clausesRefusal (clausesAt (length forms))
-  lines ← many (clauseItem forms) n []
-  goal ← line goalLine (goalRefusal forms) (goalAt (length forms) (length lines))
-  done record { lines = lines; goal = goal }
+  policy ← many (clauseItem forms) n []
+  goal ← line goalLine (goalRefusal forms) (goalAt (length forms) (length policy))
+  done record { policy = policy; goal = goal }
 
 -- The steps.
 unfoldable pub stepsPart : ℕ → ℕ → Reader (List Row)

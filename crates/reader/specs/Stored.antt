@@ -9,7 +9,7 @@ use lib.ListN.{length, drop, set, replicate, length-append, length-replicate}
 use lib.Seq.{sets, sets-eq, take-append-seam, drop-append-add}
 use Rattle.scope.specs.File.Request.{Row}
 use Rattle.scope.specs.File.Bytes.{joined}
-use Rattle.scope.specs.Call.Tables.{Entry, formEntry, lineEntry, stepEntry, unpack, pack, padded, table}
+use Rattle.scope.specs.Call.Tables.{Entry, formEntry, policyEntry, stepEntry, unpack, pack, padded, table}
 use Rattle.refusals.specs.Rows.{row}
 
 pub table-none : {A : Type 0} (e : Entry A) (len : ℕ) → table e len [] ≡ replicate len 0
@@ -64,9 +64,9 @@ module _ (len : ℕ) (t : List ℕ) (at : ℕ) where
       → set (set t at k) (at + 1) l ≡ table stepEntry len (before ++ (row k l r ∷ []))
   step-more before k l r e is h = rw (e, add-one) (table-more stepEntry (λ x. refl) len before (row k l r) at is h)
 
-  pub line-more : (before : List ℕ) (n : ℕ) → t ≡ table lineEntry len before → at ≡ length before → at + 1 ≤ len
-      → set t at n ≡ table lineEntry len (before ++ (n ∷ []))
-  line-more before n e is h = rw e (table-more lineEntry (λ x. refl) len before n at (omega arith) h)
+  pub line-more : (before : List ℕ) (n : ℕ) → t ≡ table policyEntry len before → at ≡ length before → at + 1 ≤ len
+      → set t at n ≡ table policyEntry len (before ++ (n ∷ []))
+  line-more before n e is h = rw e (table-more policyEntry (λ x. refl) len before n at (omega arith) h)
 
 unpack-front : (rows : List Row) (more : List ℕ) → unpack formEntry (length rows) (pack formEntry rows ++ more) ≡ rows
 unfolding unpack pack joined

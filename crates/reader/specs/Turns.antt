@@ -11,7 +11,7 @@ use Rattle.scope.specs.File.Bytes.{bytes}
 use Rattle.scope.specs.File.Number.{number}
 use Rattle.scope.specs.File.Request.{Row}
 use Rattle.scope.specs.File.Line.{Value, val, out, Read, ok, bad, Reader, shapedAs, line, andThen, _>>=_, many}
-use Rattle.scope.specs.Call.Tables.{Entry, table, formEntry, lineEntry, stepEntry}
+use Rattle.scope.specs.Call.Tables.{Entry, table, formEntry, policyEntry, stepEntry}
 use Rattle.scope.specs.File.Kinds.{formKinds, stepKinds, rowIn}
 use Rattle.scope.specs.Limits.{versionAt, principalsAt, atomsAt, formulasAt, formAt, clauseAt, stepAt}
 use Rattle.scope.specs.File.Refusals.{rowRefusal, formRefusal, stepRefusal, versionRefusal, principalsRefusal, atomsRefusal, formulasRefusal}
@@ -164,14 +164,14 @@ abbrev pub clauseAsked : List ℕ → ℕ → List ℕ → NumberLine
 clauseAsked classes formulas v = numberLineOf (shapedAs (classRefusal policyIn classes formulas) (number v))
 
 module _ (classes : List ℕ) (formulas : ℕ) {n : ℕ} {text : List ℕ} {len : ℕ} {numbers s : List ℕ} {i : ℕ}
-    (k : Turns lineEntry (classedItem classes formulas) n text len numbers s i) (h : i < n)
+    (k : Turns policyEntry (classedItem classes formulas) n text len numbers s i) (h : i < n)
     (q : Line-asked "clause=" (clauseAsked classes formulas) s) where
   pub clause-stops : {X : List ℕ → List ℕ → Type 0} (j : ℕ) → q .answer ≡ NumberLine.Refused j → (x : Returned)
       → x ≡ refusalIs j (clauseAt formulas i)
       → (Section.Refused x ≡ sectionOf (length text) (many (classedItem classes formulas) n [] text)) ×
-      ((lines : List ℕ) (over : List ℕ) → many (classedItem classes formulas) n [] text ≡ ok lines over → X lines over)
+      ((policy : List ℕ) (over : List ℕ) → many (classedItem classes formulas) n [] text ≡ ok policy over → X policy over)
   clause-stops j e x d =
-      turn-stops lineEntry (classedItem classes formulas) n text k h j (clauseAt formulas i)
+      turn-stops policyEntry (classedItem classes formulas) n text k h j (clauseAt formulas i)
       (value-bad "clause=" (classRefusal policyIn classes formulas) s (q .value) (q .part) (clauseAt formulas (length (k .before))) j
       (sym (q .about) ∙ e) ∙ ap (λ m. bad (answer j (clauseAt formulas m))) (k .count)) x d
 
@@ -179,10 +179,10 @@ module _ (classes : List ℕ) (formulas : ℕ) {n : ℕ} {text : List ℕ} {len 
     pub clause-behind : Behind s (length (q .value) + 8)
     clause-behind = value-behind "clause=" (classRefusal policyIn classes formulas) s (q .value) (q .part) f (sym (q .about) ∙ e)
 
-    pub clause-turn : i + 1 ≤ len → Turns lineEntry (classedItem classes formulas) n text len (set numbers i f)
+    pub clause-turn : i + 1 ≤ len → Turns policyEntry (classedItem classes formulas) n text len (set numbers i f)
         (partFrom (length (q .value) + 8) s) (i + 1)
     clause-turn room =
-        turn-more lineEntry (classedItem classes formulas) n text k h f (length (q .value) + 8) clause-behind
+        turn-more policyEntry (classedItem classes formulas) n text k h f (length (q .value) + 8) clause-behind
         (value-ok "clause=" (classRefusal policyIn classes formulas) s (q .value) (q .part) (clauseAt formulas (length (k .before)))
         (partFrom (length (q .value) + 8) s) f (clause-behind .rest) (sym (q .about) ∙ e)) (set numbers i f) (simp length-set)
         (line-more len numbers i (k .before) f (k .stored) (omega (arith, k .count)) room)
@@ -222,29 +222,29 @@ module _ (formulas clauses : ℕ) {n : ℕ} {text : List ℕ} {len : ℕ} {numbe
 
 -- The first four lines.
 module _ (s : List ℕ) where
-  pub head-1 : (k i : ℕ) → line versionLine versionRefusal versionAt s ≡ bad (answer k i) → headPart s ≡ bad (answer k i)
+  pub head-at-version : (k i : ℕ) → line versionLine versionRefusal versionAt s ≡ bad (answer k i) → headPart s ≡ bad (answer k i)
   unfolding headPart _>>=_ andThen
-  head-1 k i a = rw a refl
+  head-at-version k i a = rw a refl
 
   module _ (v : ℕ) (s₁ : List ℕ) (a : line versionLine versionRefusal versionAt s ≡ ok v s₁) where
-    pub head-2 : (k i : ℕ) → line principalsLine principalsRefusal principalsAt s₁ ≡ bad (answer k i) → headPart s ≡ bad (answer k i)
+    pub head-at-principals : (k i : ℕ) → line principalsLine principalsRefusal principalsAt s₁ ≡ bad (answer k i) → headPart s ≡ bad (answer k i)
     unfolding headPart _>>=_ andThen
-    head-2 k i b = rw a (rw b refl)
+    head-at-principals k i b = rw a (rw b refl)
 
     module _ (p : ℕ) (s₂ : List ℕ) (b : line principalsLine principalsRefusal principalsAt s₁ ≡ ok p s₂) where
-      pub head-3 : (k i : ℕ) → line atomsLine atomsRefusal atomsAt s₂ ≡ bad (answer k i) → headPart s ≡ bad (answer k i)
+      pub head-at-atoms : (k i : ℕ) → line atomsLine atomsRefusal atomsAt s₂ ≡ bad (answer k i) → headPart s ≡ bad (answer k i)
       unfolding headPart _>>=_ andThen
-      head-3 k i c = rw a (rw b (rw c refl))
+      head-at-atoms k i c = rw a (rw b (rw c refl))
 
       module _ (n : ℕ) (s₃ : List ℕ) (c : line atomsLine atomsRefusal atomsAt s₂ ≡ ok n s₃) where
-        pub head-4 : (k i : ℕ) → line formulasLine formulasRefusal formulasAt s₃ ≡ bad (answer k i) → headPart s ≡ bad (answer k i)
+        pub head-at-formulas : (k i : ℕ) → line formulasLine formulasRefusal formulasAt s₃ ≡ bad (answer k i) → headPart s ≡ bad (answer k i)
         unfolding headPart _>>=_ andThen
-        head-4 k i d = rw a (rw b (rw c (rw d refl)))
+        head-at-formulas k i d = rw a (rw b (rw c (rw d refl)))
 
-        pub head-5 : (f : ℕ) (s₄ : List ℕ) → line formulasLine formulasRefusal formulasAt s₃ ≡ ok f s₄
+        pub head-whole : (f : ℕ) (s₄ : List ℕ) → line formulasLine formulasRefusal formulasAt s₃ ≡ ok f s₄
             → headPart s ≡ ok record { principals = p; atoms = n; formulas = f } s₄
         unfolding headPart _>>=_ andThen
-        head-5 f s₄ d = rw a (rw b (rw c (rw d refl)))
+        head-whole f s₄ d = rw a (rw b (rw c (rw d refl)))
 
 module _ (n : ℕ) (r : Read Counted) where
   pub head-refused : (k i : ℕ) → r ≡ bad (answer k i) → Head.Refused (refusalIs k i) ≡ headOf n r

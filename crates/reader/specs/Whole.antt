@@ -20,25 +20,25 @@ after-assoc (bad (answer k i)) f g = refl
 
 abbrev pub requestWith : Formulas → PolicyRead → List Row → Request
 requestWith f p steps =
-    record { principals = f .principals; atoms = f .atoms; forms = f .forms; lines = p .lines; goal = p .goal; steps = steps }
+    record { principals = f .principals; atoms = f .atoms; forms = f .forms; policy = p .policy; goal = p .goal; steps = steps }
 
 unfoldable pub sections : Reader Request
 unfolding formulasPart policyPart stepsPart _>>=_
 sections = do
   f ← formulasPart
   p ← policyPart (f .forms)
-  steps ← stepsPart (length (f .forms)) (length (p .lines))
+  steps ← stepsPart (length (f .forms)) (length (p .policy))
   done (requestWith f p steps)
 
 -- What follows the formulas, and what follows the policy.
 abbrev stepsThen : Formulas → PolicyRead → Reader Request
-stepsThen f p s = andThen (stepsPart (length (f .forms)) (length (p .lines)) s) (λ steps. done (requestWith f p steps))
+stepsThen f p s = andThen (stepsPart (length (f .forms)) (length (p .policy)) s) (λ steps. done (requestWith f p steps))
 
 abbrev policyThen : Formulas → Reader Request
 policyThen f s =
     andThen (counted clausesLine clausesRefusal (clausesAt (length (f .forms))) (clauseItem (f .forms)) s)
-    (λ lines t. andThen (line goalLine (goalRefusal (f .forms)) (goalAt (length (f .forms)) (length lines)) t)
-    (λ goal. stepsThen f record { lines = lines; goal = goal }))
+    (λ policy t. andThen (line goalLine (goalRefusal (f .forms)) (goalAt (length (f .forms)) (length policy)) t)
+    (λ goal. stepsThen f record { policy = policy; goal = goal }))
 
 policy-then : (f : Formulas) (s : List ℕ) → andThen (policyPart (f .forms) s) (stepsThen f) ≡ policyThen f s
 unfolding policyPart counted _>>=_ andThen
@@ -82,7 +82,7 @@ unfolding policyPart
 policy-ends forms =
     seq-ends _ _ (line-ends _ _ _)
     (λ n. seq-ends _ _ (many-ends (clauseItem forms) n [] (λ b. line-ends _ _ _))
-    (λ lines. seq-ends _ _ (line-ends goalLine (goalRefusal forms) (goalAt (length forms) (length lines))) (λ goal. done-ends _)))
+    (λ policy. seq-ends _ _ (line-ends goalLine (goalRefusal forms) (goalAt (length forms) (length policy))) (λ goal. done-ends _)))
 
 pub steps-ends : (formulas clauses : ℕ) → Ends (stepsPart formulas clauses)
 unfolding stepsPart

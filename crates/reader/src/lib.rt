@@ -5,8 +5,8 @@ ghost use lib.ListN.{length, replicate};
 ghost use Rattle.scope.specs.Limits.{mostFormulas, mostPolicyLines, mostSteps};
 ghost use Rattle.scope.specs.File.Request.{Request};
 ghost use Rattle.scope.specs.File.Reader.{read, readRequest};
-ghost use Rattle.scope.specs.Call.Tables.{table, formEntry, lineEntry, stepEntry};
-ghost use Rattle.scope.specs.Call.Calls.{reading, formTableAfter, lineTableAfter, stepTableAfter};
+ghost use Rattle.scope.specs.Call.Tables.{table, formEntry, policyEntry, stepEntry};
+ghost use Rattle.scope.specs.Call.Calls.{reading, formTableAfter, policyTableAfter, stepTableAfter};
 ghost use Rattle.scope.specs.Call.Answer.{answer};
 ghost use Rattle.common.specs.Answers.{answerOf};
 ghost use Rattle.reader.specs.Answers.{numberRefusal, rowRefused, stepRefused, sectionRefused, headRefused, policyRefused, stepsRefused, readingOf};
@@ -66,7 +66,7 @@ enum Steps {
     Refused(Answer),
 }
 
-// The refusal of a line at its place.
+// The refusal of a line at its place. Each of these is called on a refusal alone: nothing reaches the other case, which gives number 0.
 fn number_refused(line: NumberLine, place: u32) -> Answer
     ensures { λ r. ⌜ r ≡ answerOf (answer (numberRefusal line) place) ⌝ }
 {
@@ -166,7 +166,7 @@ fn read_parts(text: &[u8], forms: &mut [u16], policy: &mut [u16], steps: &mut [u
     requires { ⌜ (3 * mostFormulas ≤ length (now forms)) × (now forms ≡ replicate (length (now forms)) 0) × (mostPolicyLines ≤ length (now policy)) × (now policy ≡ replicate (length (now policy)) 0) × (2 * mostSteps ≤ length (now steps)) × (now steps ≡ replicate (length (now steps)) 0) ⌝ }
     ensures { λ r. ⌜ r ≡ readingOf (readRequest (now (text .entry))) ⌝ }
     ensures { λ r. ⌜ ((q : Request) → readRequest (now (text .entry)) ≡ read q → now (forms .exit) ≡ table formEntry (length (now (forms .entry))) (q .forms)) ⌝ }
-    ensures { λ r. ⌜ ((q : Request) → readRequest (now (text .entry)) ≡ read q → now (policy .exit) ≡ table lineEntry (length (now (policy .entry))) (q .lines)) ⌝ }
+    ensures { λ r. ⌜ ((q : Request) → readRequest (now (text .entry)) ≡ read q → now (policy .exit) ≡ table policyEntry (length (now (policy .entry))) (q .policy)) ⌝ }
     ensures { λ r. ⌜ ((q : Request) → readRequest (now (text .entry)) ≡ read q → now (steps .exit) ≡ table stepEntry (length (now (steps .entry))) (q .steps)) ⌝ }
 {
     let first = form_lines::read_formulas(text, forms);
@@ -191,7 +191,7 @@ fn read_parts(text: &[u8], forms: &mut [u16], policy: &mut [u16], steps: &mut [u
         principals,
         atoms,
         formulas,
-        lines: clauses,
+        policy: clauses,
         goal,
         steps: count,
     })
@@ -206,7 +206,7 @@ pub fn read_request(
 ) -> Reading
     ensures { λ r. ⌜ r ≡ readingOf (reading (length (now (forms .entry))) (length (now (policy .entry))) (length (now (steps .entry))) (now (text .entry))) ⌝ }
     ensures { λ r. ⌜ now (forms .exit) ≡ formTableAfter (length (now (forms .entry))) (reading (length (now (forms .entry))) (length (now (policy .entry))) (length (now (steps .entry))) (now (text .entry))) ⌝ }
-    ensures { λ r. ⌜ now (policy .exit) ≡ lineTableAfter (length (now (policy .entry))) (reading (length (now (forms .entry))) (length (now (policy .entry))) (length (now (steps .entry))) (now (text .entry))) ⌝ }
+    ensures { λ r. ⌜ now (policy .exit) ≡ policyTableAfter (length (now (policy .entry))) (reading (length (now (forms .entry))) (length (now (policy .entry))) (length (now (steps .entry))) (now (text .entry))) ⌝ }
     ensures { λ r. ⌜ now (steps .exit) ≡ stepTableAfter (length (now (steps .entry))) (reading (length (now (forms .entry))) (length (now (policy .entry))) (length (now (steps .entry))) (now (text .entry))) ⌝ }
 {
     zero_table(forms);

@@ -11,7 +11,7 @@ ghost use Rattle.scope.specs.Limits.{mostFormulas, mostPolicyLines};
 ghost use Rattle.scope.specs.File.Bytes.{bytes};
 ghost use Rattle.scope.specs.File.Number.{number};
 ghost use Rattle.scope.specs.File.Line.{shapedAs, many, ok};
-ghost use Rattle.scope.specs.Call.Tables.{table, unpack, formEntry, lineEntry};
+ghost use Rattle.scope.specs.Call.Tables.{table, unpack, formEntry, policyEntry};
 ghost use Rattle.classes.specs.Class.{goalIn, policyIn};
 ghost use Rattle.lines.specs.Parts.{valueOf};
 ghost use Rattle.reader.specs.Answers.{numberLineOf, sectionOf, policySection};
@@ -71,7 +71,7 @@ fn read_clauses(
 ) -> Section
     requires { ⌜ (clauses ≤ mostPolicyLines) × (mostPolicyLines ≤ length (now policy)) × (now policy ≡ replicate (length (now policy)) 0) ⌝ }
     ensures { λ r. ⌜ r ≡ sectionOf (length (now (text .entry))) (many (classedItem (now (classes .entry)) formulas) clauses [] (now (text .entry))) ⌝ }
-    ensures { λ r. ⌜ ((rows : List ℕ) (rest : List ℕ) → many (classedItem (now (classes .entry)) formulas) clauses [] (now (text .entry)) ≡ ok rows rest → now (policy .exit) ≡ table lineEntry (length (now (policy .entry))) rows) ⌝ }
+    ensures { λ r. ⌜ ((rows : List ℕ) (rest : List ℕ) → many (classedItem (now (classes .entry)) formulas) clauses [] (now (text .entry)) ≡ ok rows rest → now (policy .exit) ≡ table policyEntry (length (now (policy .entry))) rows) ⌝ }
 {
     let mut rest = text;
     let mut i: u16 = 0;
@@ -96,7 +96,7 @@ fn read_clauses(
 pub(crate) fn read_policy(text: &[u8], formulas: u16, forms: &[u16], policy: &mut [u16]) -> Policy
     requires { ⌜ (formulas ≤ mostFormulas) × (mostPolicyLines ≤ length (now policy)) × (now policy ≡ replicate (length (now policy)) 0) ⌝ }
     ensures { λ r. ⌜ r ≡ policySection (length (now (text .entry))) (policyPart (unpack formEntry formulas (now (forms .entry))) (now (text .entry))) ⌝ }
-    ensures { λ r. ⌜ ((p : PolicyRead) (rest : List ℕ) → policyPart (unpack formEntry formulas (now (forms .entry))) (now (text .entry)) ≡ ok p rest → now (policy .exit) ≡ table lineEntry (length (now (policy .entry))) (p .lines)) ⌝ }
+    ensures { λ r. ⌜ ((p : PolicyRead) (rest : List ℕ) → policyPart (unpack formEntry formulas (now (forms .entry))) (now (text .entry)) ≡ ok p rest → now (policy .exit) ≡ table policyEntry (length (now (policy .entry))) (p .policy)) ⌝ }
 {
     let count = crate::first_lines::count_line(text, b"clauses=", 0, common::MOST_POLICY_LINES);
     let NumberLine::Number(clauses) = count else {

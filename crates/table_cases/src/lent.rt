@@ -15,60 +15,60 @@ pub(crate) enum Edit {
 
 pub(crate) fn exact(name: &[u8], counts: Counts, edit: Edit) {
     let mut forms = [0u16; 3072];
-    let mut lines = [0u16; 128];
+    let mut policy = [0u16; 128];
     let mut steps = [0u16; 4096];
-    fill(&mut forms, &mut lines, &mut steps);
-    change(edit, &mut forms, &mut lines, &mut steps);
-    tried::both(name, counts, &forms, &lines, &steps);
+    fill(&mut forms, &mut policy, &mut steps);
+    change(edit, &mut forms, &mut policy, &mut steps);
+    tried::both(name, counts, &forms, &policy, &steps);
 }
 
 pub(crate) fn longer(name: &[u8], counts: Counts, edit: Edit) {
     let mut forms = [0u16; 3073];
-    let mut lines = [0u16; 129];
+    let mut policy = [0u16; 129];
     let mut steps = [0u16; 4097];
-    fill(&mut forms, &mut lines, &mut steps);
-    change(edit, &mut forms, &mut lines, &mut steps);
-    tried::both(name, counts, &forms, &lines, &steps);
+    fill(&mut forms, &mut policy, &mut steps);
+    change(edit, &mut forms, &mut policy, &mut steps);
+    tried::both(name, counts, &forms, &policy, &steps);
 }
 
 pub(crate) fn forms_short(name: &[u8], counts: Counts) {
     let mut forms = [0u16; 3071];
-    let mut lines = [0u16; 128];
+    let mut policy = [0u16; 128];
     let mut steps = [0u16; 4096];
-    fill(&mut forms, &mut lines, &mut steps);
-    tried::both(name, counts, &forms, &lines, &steps);
+    fill(&mut forms, &mut policy, &mut steps);
+    tried::both(name, counts, &forms, &policy, &steps);
 }
 
 pub(crate) fn lines_short(name: &[u8], counts: Counts) {
     let mut forms = [0u16; 3072];
-    let mut lines = [0u16; 127];
+    let mut policy = [0u16; 127];
     let mut steps = [0u16; 4096];
-    fill(&mut forms, &mut lines, &mut steps);
-    tried::both(name, counts, &forms, &lines, &steps);
+    fill(&mut forms, &mut policy, &mut steps);
+    tried::both(name, counts, &forms, &policy, &steps);
 }
 
 pub(crate) fn steps_short(name: &[u8], counts: Counts) {
     let mut forms = [0u16; 3072];
-    let mut lines = [0u16; 128];
+    let mut policy = [0u16; 128];
     let mut steps = [0u16; 4095];
-    fill(&mut forms, &mut lines, &mut steps);
-    tried::both(name, counts, &forms, &lines, &steps);
+    fill(&mut forms, &mut policy, &mut steps);
+    tried::both(name, counts, &forms, &policy, &steps);
 }
 
 // Only the writer, and with this output.
 pub(crate) fn into_room(name: &[u8], counts: Counts, edit: Edit, out: &mut [u8]) {
     let mut forms = [0u16; 3072];
-    let mut lines = [0u16; 128];
+    let mut policy = [0u16; 128];
     let mut steps = [0u16; 4096];
-    fill(&mut forms, &mut lines, &mut steps);
-    change(edit, &mut forms, &mut lines, &mut steps);
-    tried::write_into(name, counts, &forms, &lines, &steps, out);
+    fill(&mut forms, &mut policy, &mut steps);
+    change(edit, &mut forms, &mut policy, &mut steps);
+    tried::write_into(name, counts, &forms, &policy, &steps, out);
 }
 
 // The three tables of P1, over zeros.
-fn fill(forms: &mut [u16], lines: &mut [u16], steps: &mut [u16]) {
+fn fill(forms: &mut [u16], policy: &mut [u16], steps: &mut [u16]) {
     fill_forms(forms);
-    fill_lines(lines);
+    fill_lines(policy);
     fill_steps(steps);
 }
 
@@ -80,10 +80,10 @@ fn fill_forms(forms: &mut [u16]) {
     set_row(forms, 12, 6, 1, 0);
 }
 
-fn fill_lines(lines: &mut [u16]) {
-    set(lines, 0, 2);
-    set(lines, 1, 3);
-    set(lines, 2, 4);
+fn fill_lines(policy: &mut [u16]) {
+    set(policy, 0, 2);
+    set(policy, 1, 3);
+    set(policy, 2, 4);
 }
 
 // use 0, to 0, hit, says, use 2, to 1, hit.
@@ -99,12 +99,12 @@ fn fill_steps(steps: &mut [u16]) {
     set(steps, 12, 11);
 }
 
-fn change(edit: Edit, forms: &mut [u16], lines: &mut [u16], steps: &mut [u16]) {
+fn change(edit: Edit, forms: &mut [u16], policy: &mut [u16], steps: &mut [u16]) {
     match edit {
         Edit::Nothing => {}
         Edit::Row(at, kind, left, right) => set_row(forms, at, kind, left, right),
         Edit::Form(at, value) => set(forms, at, value),
-        Edit::Line(at, value) => set(lines, at, value),
+        Edit::Line(at, value) => set(policy, at, value),
         Edit::Step(at, value) => set(steps, at, value),
         Edit::NoChunk => {
             set_row(forms, 15, 6, 0, 3);

@@ -12,7 +12,7 @@ fn p1() -> Counts {
         principals: 2,
         atoms: 1,
         formulas: 5,
-        lines: 3,
+        policy: 3,
         goal: 0,
         steps: 7,
     }
@@ -24,19 +24,19 @@ fn head(principals: u16, atoms: u16, formulas: u16) -> Counts {
         principals: principals,
         atoms: atoms,
         formulas: formulas,
-        lines: counts.lines,
+        policy: counts.policy,
         goal: counts.goal,
         steps: counts.steps,
     }
 }
 
-fn rest(lines: u16, goal: u16, steps: u16) -> Counts {
+fn rest(policy: u16, goal: u16, steps: u16) -> Counts {
     let counts = p1();
     Counts {
         principals: counts.principals,
         atoms: counts.atoms,
         formulas: counts.formulas,
-        lines: lines,
+        policy: policy,
         goal: goal,
         steps: steps,
     }
@@ -136,7 +136,7 @@ fn goals() {
         principals: 2,
         atoms: 1,
         formulas: 7,
-        lines: 3,
+        policy: 3,
         goal: 6,
         steps: 7,
     };

@@ -4,10 +4,10 @@ use libc::STDOUT_FILENO;
 use reader::Reading;
 
 // Prints the writer's answer, and the judge's in a line of its own where it is another.
-pub(crate) fn both(name: &[u8], counts: Counts, forms: &[u16], lines: &[u16], steps: &[u16]) {
+pub(crate) fn both(name: &[u8], counts: Counts, forms: &[u16], policy: &[u16], steps: &[u16]) {
     let mut out = [1u8; 65536];
-    let written = write_into(name, counts, forms, lines, steps, &mut out);
-    let judged = judge::judge(counts, forms, lines, steps);
+    let written = write_into(name, counts, forms, policy, steps, &mut out);
+    let judged = judge::judge(counts, forms, policy, steps);
     if judged.refusal == written.refusal && judged.place == written.place {
         return;
     }
@@ -20,11 +20,11 @@ pub(crate) fn write_into(
     name: &[u8],
     counts: Counts,
     forms: &[u16],
-    lines: &[u16],
+    policy: &[u16],
     steps: &[u16],
     out: &mut [u8],
 ) -> writer::Writing {
-    let written = writer::write(counts, forms, lines, steps, out);
+    let written = writer::write(counts, forms, policy, steps, out);
     answered(name, written.refusal, written.place);
     if written.refusal != 0 && written.length != 0 {
         trouble(name, b": a length after a refusal\n");
@@ -32,14 +32,14 @@ pub(crate) fn write_into(
     if !zero_from(out, written.length) {
         trouble(name, b": not zero behind the text\n");
     }
-    if written.refusal == 0 && !reads_back(out, written.length, forms, lines, steps) {
+    if written.refusal == 0 && !reads_back(out, written.length, forms, policy, steps) {
         trouble(name, b": not read back\n");
     }
     written
 }
 
 // Whether the text reads as these tables, as far as the largest counts go.
-fn reads_back(out: &[u8], length: usize, forms: &[u16], lines: &[u16], steps: &[u16]) -> bool {
+fn reads_back(out: &[u8], length: usize, forms: &[u16], policy: &[u16], steps: &[u16]) -> bool {
     let mut forms_read = [1u16; 3072];
     let mut lines_read = [1u16; 128];
     let mut steps_read = [1u16; 4096];
@@ -49,7 +49,7 @@ fn reads_back(out: &[u8], length: usize, forms: &[u16], lines: &[u16], steps: &[
         return false;
     };
     starts_with(forms, &forms_read)
-        && starts_with(lines, &lines_read)
+        && starts_with(policy, &lines_read)
         && starts_with(steps, &steps_read)
 }
 

@@ -80,7 +80,7 @@ lines-unrefused q e =
       formulas = c .one;
       forms = each-met _ _ [] (q .forms) (d .one);
       clauses = f .one;
-      lines = each-met _ _ [] (q .lines) (g .one);
+      policy = each-met _ _ [] (q .policy) (g .one);
       goal = h .one;
       step-count = i .one;
       steps = each-met _ _ [] (q .steps) (j .one);
@@ -94,7 +94,7 @@ unrefused-lines q g =
     passes _ _ _ (g .formulas) ∙
     passes-all _ _ (each-passes _ _ (g .forms)) ∙
     passes _ _ _ (g .clauses) ∙
-    passes-all _ _ (each-passes _ _ (g .lines)) ∙
+    passes-all _ _ (each-passes _ _ (g .policy)) ∙
     passes _ _ _ (g .goal) ∙
     passes _ _ _ (g .step-count) ∙
     passes-all _ _ (each-passes _ _ (g .steps)) ∙

@@ -12,7 +12,7 @@ use Rattle.scope.specs.Logic.Form.{both}
 use Rattle.scope.specs.File.Request.{Row, Request}
 use Rattle.scope.specs.File.Kinds.{Sort, Kind, kindIn, stepKinds}
 use Rattle.scope.specs.File.Refusals.{restZero, stepRefusal}
-use Rattle.scope.specs.Call.Tables.{Lent, formEntry, lineEntry, stepEntry, table, hasRoom, requestOf, lentOf}
+use Rattle.scope.specs.Call.Tables.{Lent, formEntry, policyEntry, stepEntry, table, hasRoom, requestOf, lentOf}
 use Rattle.scope.specs.Call.Checked.{allZero, pastZero}
 use Rattle.scope.specs.Tools.Unpack.{unpack-length}
 use Rattle.scope.specs.Tools.Tests.{both-true, both-met}
@@ -37,10 +37,10 @@ form-laid = record { wide = λ r. refl; numbers-back = three; thing-back = λ r 
     three (a ∷ b ∷ c ∷ []) e = refl
     three (a ∷ b ∷ c ∷ d ∷ l) e = absurd (omega arith)
 
-line-laid : Laid lineEntry Any
+line-laid : Laid policyEntry Any
 line-laid = record { wide = λ n. refl; numbers-back = one; thing-back = λ n u. refl }
   where
-    one : (l : List ℕ) → length l ≡ 1 → lineEntry .put (lineEntry .get l) ≡ l
+    one : (l : List ℕ) → length l ≡ 1 → policyEntry .put (policyEntry .get l) ≡ l
     one [] e = absurd (omega arith)
     one (a ∷ []) e = refl
     one (a ∷ b ∷ l) e = absurd (omega arith)
@@ -85,12 +85,12 @@ each-all f Several.none-left = none-left
 each-all f (Several.one-more {before = b} {x = x} g e) = one-more (f b x g) (each-all f e)
 
 -- Room for the largest counts.
-pub record Roomy (forms lines steps : ℕ) : Type 0 where
+pub record Roomy (forms policy steps : ℕ) : Type 0 where
   pub for-forms : 3072 ≤ forms
-  pub for-lines : 128 ≤ lines
+  pub for-lines : 128 ≤ policy
   pub for-steps : 4096 ≤ steps
 
-pub has-room : (forms lines steps : ℕ) → hasRoom forms lines steps ≡ true → Roomy forms lines steps
+pub has-room : (forms policy steps : ℕ) → hasRoom forms policy steps ≡ true → Roomy forms policy steps
 unfolding hasRoom
 has-room f l s e =
     let p = both-true (leb 3072 f) (both (leb 128 l) (leb 4096 s)) e in
@@ -100,14 +100,14 @@ has-room f l s e =
 -- The counts of a request without refusal.
 record Sized (q : Request) : Type 0 where
   forms : length (q .forms) ≤ 1024
-  lines : length (q .lines) ≤ 128
+  policy : length (q .policy) ≤ 128
   steps : length (q .steps) ≤ 2048
 
 sized : (q : Request) → Unrefused q → Sized q
 sized q g =
     record {
       forms = count-passed 1 1024 (length (q .forms)) (g .formulas) .high;
-      lines = count-passed 0 128 (length (q .lines)) (g .clauses) .high;
+      policy = count-passed 0 128 (length (q .policy)) (g .clauses) .high;
       steps = count-passed 1 2048 (length (q .steps)) (g .step-count) .high;
     }
 
@@ -116,61 +116,61 @@ one-times n = omega arith
 
 -- Tables that pass stand as reading their request would leave them.
 pub lent-back :
-    (t : Lent) → Roomy (length (t .formTable)) (length (t .lineTable)) (length (t .stepTable)) → Unrefused (requestOf t) → pastZero t ≡ true
-    → lentOf (length (t .formTable)) (length (t .lineTable)) (length (t .stepTable)) (requestOf t) ≡ t
+    (t : Lent) → Roomy (length (t .formTable)) (length (t .policyTable)) (length (t .stepTable)) → Unrefused (requestOf t) → pastZero t ≡ true
+    → lentOf (length (t .formTable)) (length (t .policyTable)) (length (t .stepTable)) (requestOf t) ≡ t
 unfolding lentOf requestOf pastZero
 lent-back t room g past =
     let s = sized (requestOf t) g in
-    let a = both-true (allZero (drop (3 * t .formulas) (t .formTable))) (both (allZero (drop (t .lines) (t .lineTable))) (allZero (drop (2 * t .steps) (t .stepTable)))) past in
-    let b = both-true (allZero (drop (t .lines) (t .lineTable))) (allZero (drop (2 * t .steps) (t .stepTable))) (a .1) in
+    let a = both-true (allZero (drop (3 * t .formulas) (t .formTable))) (both (allZero (drop (t .policy) (t .policyTable))) (allZero (drop (2 * t .steps) (t .stepTable)))) past in
+    let b = both-true (allZero (drop (t .policy) (t .policyTable))) (allZero (drop (2 * t .steps) (t .stepTable))) (a .1) in
     let nf = unpack-length formEntry (t .formulas) (t .formTable) in
-    let nl = unpack-length lineEntry (t .lines) (t .lineTable) in
+    let nl = unpack-length policyEntry (t .policy) (t .policyTable) in
     let ns = unpack-length stepEntry (t .steps) (t .stepTable) in
     let hf : 3 * t .formulas ≤ length (t .formTable) = omega (arith, s .forms, room .for-forms) in
-    let hl : 1 * t .lines ≤ length (t .lineTable) = omega (arith, s .lines, room .for-lines) in
+    let hl : 1 * t .policy ≤ length (t .policyTable) = omega (arith, s .policy, room .for-lines) in
     let hs : 2 * t .steps ≤ length (t .stepTable) = omega (arith, s .steps, room .for-steps) in
-    let zl : allZero (drop (1 * t .lines) (t .lineTable)) ≡ true = rw (one-times (t .lines)) (b .0) in
+    let zl : allZero (drop (1 * t .policy) (t .policyTable)) ≡ true = rw (one-times (t .policy)) (b .0) in
     let ft = table-back formEntry Any form-laid (t .formulas) (t .formTable) hf (a .0) in
-    let lt = table-back lineEntry Any line-laid (t .lines) (t .lineTable) hl zl in
+    let lt = table-back policyEntry Any line-laid (t .policy) (t .policyTable) hl zl in
     let st = table-back stepEntry (λ r. r .right ≡ 0) step-laid (t .steps) (t .stepTable) hs (b .1) in
     λ i.
     record {
       principals = t .principals;
       atoms = t .atoms;
       formulas = nf i;
-      lines = nl i;
+      policy = nl i;
       goal = t .goal;
       steps = ns i;
       formTable = ft i;
-      lineTable = lt i;
+      policyTable = lt i;
       stepTable = st i;
     }
 
 -- The tables that say a request give it back, with room as they were lent, and with nothing past the counts.
-pub record Said (forms lines steps : ℕ) (q : Request) : Type 0 where
-  pub back : requestOf (lentOf forms lines steps q) ≡ q
-  pub form-room : length (lentOf forms lines steps q .formTable) ≡ forms
-  pub line-room : length (lentOf forms lines steps q .lineTable) ≡ lines
-  pub step-room : length (lentOf forms lines steps q .stepTable) ≡ steps
-  pub past : pastZero (lentOf forms lines steps q) ≡ true
+pub record Said (forms policy steps : ℕ) (q : Request) : Type 0 where
+  pub back : requestOf (lentOf forms policy steps q) ≡ q
+  pub form-room : length (lentOf forms policy steps q .formTable) ≡ forms
+  pub line-room : length (lentOf forms policy steps q .policyTable) ≡ policy
+  pub step-room : length (lentOf forms policy steps q .stepTable) ≡ steps
+  pub past : pastZero (lentOf forms policy steps q) ≡ true
 
 any-each : {A : Type 0} (xs : List A) → All Any xs
 any-each [] = none-left
 any-each (x ∷ xs) = one-more tt (any-each xs)
 
-pub said : (forms lines steps : ℕ) (q : Request) → Roomy forms lines steps → Unrefused q → Said forms lines steps q
+pub said : (forms policy steps : ℕ) (q : Request) → Roomy forms policy steps → Unrefused q → Said forms policy steps q
 unfolding lentOf requestOf pastZero
 said lf ll ls q room g =
     let s = sized q g in
     let fb = table-there formEntry Any form-laid lf (q .forms) (any-each (q .forms)) in
-    let lb = table-there lineEntry Any line-laid ll (q .lines) (any-each (q .lines)) in
+    let lb = table-there policyEntry Any line-laid ll (q .policy) (any-each (q .policy)) in
     let sb = table-there stepEntry (λ r. r .right ≡ 0) step-laid ls (q .steps) (each-all (λ b r e. step-right r e) (g .steps)) in
-    let zl : allZero (drop (length (q .lines)) (table lineEntry ll (q .lines))) ≡ true =
-    rw one-times at (table-past lineEntry Any line-laid ll (q .lines)) in
+    let zl : allZero (drop (length (q .policy)) (table policyEntry ll (q .policy))) ≡ true =
+    rw one-times at (table-past policyEntry Any line-laid ll (q .policy)) in
     record {
-      back = λ i. record { principals = q .principals; atoms = q .atoms; forms = fb i; lines = lb i; goal = q .goal; steps = sb i };
+      back = λ i. record { principals = q .principals; atoms = q .atoms; forms = fb i; policy = lb i; goal = q .goal; steps = sb i };
       form-room = table-length formEntry Any form-laid lf (q .forms) (omega (arith, s .forms, room .for-forms));
-      line-room = table-length lineEntry Any line-laid ll (q .lines) (omega (arith, s .lines, room .for-lines));
+      line-room = table-length policyEntry Any line-laid ll (q .policy) (omega (arith, s .policy, room .for-lines));
       step-room = table-length stepEntry (λ r. r .right ≡ 0) step-laid ls (q .steps) (omega (arith, s .steps, room .for-steps));
       past = both-met _ _ (table-past formEntry Any form-laid lf (q .forms)) (both-met _ _ zl (table-past stepEntry (λ r. r .right ≡ 0) step-laid ls (q .steps)));
     }

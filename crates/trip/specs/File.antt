@@ -27,8 +27,8 @@ pub record Unrefused (q : Request) : Type 0 where
   pub atoms : atomsRefusal (q .atoms) ≡ 0
   pub formulas : formulasRefusal (length (q .forms)) ≡ 0
   pub forms : Each (λ before r. formRefusal (q .principals) (q .atoms) before r ≡ 0) (length (q .forms)) [] (q .forms)
-  pub clauses : clausesRefusal (length (q .lines)) ≡ 0
-  pub lines : Each (λ before f. clauseRefusal (q .forms) f ≡ 0) (length (q .lines)) [] (q .lines)
+  pub clauses : clausesRefusal (length (q .policy)) ≡ 0
+  pub policy : Each (λ before f. clauseRefusal (q .forms) f ≡ 0) (length (q .policy)) [] (q .policy)
   pub goal : goalRefusal (q .forms) (q .goal) ≡ 0
   pub step-count : stepsRefusal (length (q .steps)) ≡ 0
   pub steps : Each (λ before r. stepRefusal r ≡ 0) (length (q .steps)) [] (q .steps)
@@ -102,7 +102,7 @@ request-reads =
     (counted-reads formulasLine formulasRefusal 4 (formItem np na) formLine (λ before r. formRefusal np na before r ≡ 0) 1024
     (count-reads "formulas=" 1 1024 4 refl (omega arith)) (most 1 1024)
     (form-reads np na (omega (arith, most 1 16 np gp)) (omega (arith, most 1 256 na ga))))
-    (λ fs gf. seq-reads (λ q. q .lines)
+    (λ fs gf. seq-reads (λ q. q .policy)
     (counted-reads clausesLine clausesRefusal (5 + length fs) (clauseItem fs) clauseLine (λ before f. clauseRefusal fs f ≡ 0) 128
     (count-reads "clauses=" 0 128 (5 + length fs) refl (omega arith)) (most 0 128)
     (clause-reads fs (most 1 1024 (length fs) (gf .one))))
@@ -111,10 +111,10 @@ request-reads =
     (counted-reads stepsLine stepsRefusal (7 + length fs + length ls) (stepItem (length fs) (length ls)) stepLine (λ before r. stepRefusal r ≡ 0) 2048
     (count-reads "steps=" 1 2048 (7 + length fs + length ls) refl (omega arith)) (most 1 2048)
     (step-reads (length fs) (length ls)))
-    (λ ss gs. done-reads (record { principals = np; atoms = na; forms = fs; lines = ls; goal = g; steps = ss }))
+    (λ ss gs. done-reads (record { principals = np; atoms = na; forms = fs; policy = ls; goal = g; steps = ss }))
     (λ ss q gs e. ap (λ x. x .steps) e))
     (λ g q gg e. ap (λ x. x .goal) (e .two)))
-    (λ ls q gl e. ap (λ x. x .lines) (e .two .two)))
+    (λ ls q gl e. ap (λ x. x .policy) (e .two .two)))
     (λ fs q gf e. ap (λ x. x .forms) (e .two .two .two)))
     (λ na q ga e. ap (λ x. x .atoms) (e .two .two .two .two)))
     (λ np q gp e. ap (λ x. x .principals) (e .two .two .two .two .two)))
@@ -126,7 +126,7 @@ request-reads =
       formulas = g .two .two .two .one .one;
       forms = g .two .two .two .one .two;
       clauses = g .two .two .two .two .one .one;
-      lines = g .two .two .two .two .one .two;
+      policy = g .two .two .two .two .one .two;
       goal = g .two .two .two .two .two .one;
       step-count = g .two .two .two .two .two .two .one .one;
       steps = g .two .two .two .two .two .two .one .two;
@@ -136,6 +136,6 @@ request-reads =
     (two (g .principals)
     (two (g .atoms)
     (two (two (g .formulas) (g .forms))
-    (two (two (g .clauses) (g .lines))
+    (two (two (g .clauses) (g .policy))
     (two (g .goal)
     (two (two (g .step-count) (g .steps)) refl)))))))

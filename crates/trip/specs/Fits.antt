@@ -117,12 +117,12 @@ pub text-fits : (q : Request) → Unrefused q → length (requestText q) ≤ 655
 unfolding requestText joined
 text-fits q g =
     let f = count-passed 1 1024 (length (q .forms)) (g .formulas) in
-    let c = count-passed 0 128 (length (q .lines)) (g .clauses) in
+    let c = count-passed 0 128 (length (q .policy)) (g .clauses) in
     let s = count-passed 1 2048 (length (q .steps)) (g .step-count) in
     let forms : length (countedText formulasLine formLine (q .forms)) ≤ 22543 =
     omega (arith, counted-fits formulasLine formLine 22 (q .forms) (numeral-fits (length (q .forms))) (form-fits (q .principals) (q .atoms)) (g .forms)) in
-    let clauses : length (countedText clausesLine clauseLine (q .lines)) ≤ 1678 =
-    omega (arith, counted-fits clausesLine clauseLine 13 (q .lines) (numeral-fits (length (q .lines))) (λ b x r. line-fits clauseLine x 5 (numeral-fits x)) (g .lines)) in
+    let clauses : length (countedText clausesLine clauseLine (q .policy)) ≤ 1678 =
+    omega (arith, counted-fits clausesLine clauseLine 13 (q .policy) (numeral-fits (length (q .policy))) (λ b x r. line-fits clauseLine x 5 (numeral-fits x)) (g .policy)) in
     let steps : length (countedText stepsLine stepLine (q .steps)) ≤ 30732 =
     omega (arith, counted-fits stepsLine stepLine 15 (q .steps) (numeral-fits (length (q .steps))) step-fits (g .steps)) in
     let parts : Within
@@ -130,7 +130,7 @@ text-fits q g =
     lineText principalsLine (q .principals) ∷
     lineText atomsLine (q .atoms) ∷
     countedText formulasLine formLine (q .forms) ∷
-    countedText clausesLine clauseLine (q .lines) ∷
+    countedText clausesLine clauseLine (q .policy) ∷
     lineText goalLine (q .goal) ∷
     countedText stepsLine stepLine (q .steps) ∷
     [])

@@ -37,7 +37,7 @@ pub data Where (s : List ℕ) (k i : ℕ) : Type 0 where
   of-rest : (b : Before s i) (q : Request) → k ≡ 6 → readRequest (b .before) ≡ read q → Where s k i
 
 -- The lines of a request, from the first on; behind them stands the line that `endAt` names.
-request-from : From versionAt (λ (q : Request). endAt (length (q .forms)) (length (q .lines)) (length (q .steps))) requestLines
+request-from : From versionAt (λ (q : Request). endAt (length (q .forms)) (length (q .policy)) (length (q .steps))) requestLines
 unfolding requestLines
 request-from =
     then-from (line-from versionLine versionRefusal (count-mild 1 1) versionAt) λ version.
@@ -80,7 +80,7 @@ refused-where s k i e = go (requestLines s) refl e
     go (ok q (b ∷ rest)) d e′ =
         let p = request-from .goes s q (b ∷ rest) d in
         let y : 6 ≡ k = cc in
-        let z : endAt (length (q .forms)) (length (q .lines)) (length (q .steps)) ≡ i = cc in
+        let z : endAt (length (q .forms)) (length (q .policy)) (length (q .steps)) ≡ i = cc in
         let w : requestLines (p .gone) ≡ ok q [] = ap requestLines (sym (append-nil (p .gone))) ∙ p .whatever [] in
         of-rest
         (record { before = p .gone; rest = b ∷ rest; parted = p .parted; lines = p .lines; place = omega (arith, p .stands) })

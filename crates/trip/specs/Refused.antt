@@ -110,8 +110,8 @@ pub record InShape (q : Request) : Type 0 where
   pub atoms : q .atoms < 100000
   pub formulas : length (q .forms) < 100000
   pub forms : All (Rows.SayableRow formKinds) (q .forms)
-  pub clauses : length (q .lines) < 100000
-  pub lines : All (λ f. f < 100000) (q .lines)
+  pub clauses : length (q .policy) < 100000
+  pub policy : All (λ f. f < 100000) (q .policy)
   pub goal : q .goal < 100000
   pub step-count : length (q .steps) < 100000
   pub steps : All (Rows.SayableRow stepKinds) (q .steps)
@@ -125,7 +125,7 @@ request-meets : (q : Request) → InShape q → Meets requestLines (requestText 
 unfolding requestLines requestText joined lineAnswers free
 request-meets q g =
     let nf = length (q .forms) in
-    let nl = length (q .lines) in
+    let nl = length (q .policy) in
     seq-meets _ (number-meets "version=" versionRefusal 1 1 refl (omega arith))
     (seq-meets _ (number-meets "principals=" principalsRefusal 2 (q .principals) refl (g .principals))
     (seq-meets _ (number-meets "atoms=" atomsRefusal 3 (q .atoms) refl (g .atoms))
@@ -137,10 +137,10 @@ request-meets q g =
     (g .forms))
     (seq-meets _
     (counted-meets clausesLine clausesRefusal (clausesAt nf) (clauseItem (q .forms)) clauseLine
-    (λ before f. answer (clauseRefusal (q .forms) f) (clauseAt nf (length before))) (λ f. f < 100000) (q .lines)
+    (λ before f. answer (clauseRefusal (q .forms) f) (clauseAt nf (length before))) (λ f. f < 100000) (q .policy)
     (number-meets "clauses=" clausesRefusal (clausesAt nf) nl refl (g .clauses))
     (λ before f h. number-meets "clause=" (clauseRefusal (q .forms)) (clauseAt nf (length before)) f refl h)
-    (g .lines))
+    (g .policy))
     (seq-meets _ (number-meets "goal=" (goalRefusal (q .forms)) (goalAt nf nl) (q .goal) refl (g .goal))
     (seq-meets _
     (counted-meets stepsLine stepsRefusal (stepsAt nf nl) (stepItem nf nl) stepLine
@@ -174,7 +174,7 @@ refused-lines q k i g e = go (firstMet (lineAnswers q)) refl (sym (text-told q g
 
 -- Tables with room whose request can be said in shape.
 pub record Sayable (t : Lent) : Type 0 where
-  pub room : hasRoom (length (t .formTable)) (length (t .lineTable)) (length (t .stepTable)) ≡ true
+  pub room : hasRoom (length (t .formTable)) (length (t .policyTable)) (length (t .stepTable)) ≡ true
   pub in-shape : InShape (requestOf t)
 
 -- What is metThen in a list is metThen in a longer one; and what is metThen at a line is not metThen in a last answer at place 0.

@@ -56,8 +56,8 @@ trip-write = write-then-read
 
 -- What was read is written again, from the counts, goal and tables that reading left, as the very text, where the output has room for it.
 pub trip-read :
-    (forms lines steps len : ℕ) (s : List ℕ) (q : Request) → reading forms lines steps s ≡ read q → length s ≤ len
-    → writing (lentAfter forms lines steps (read q)) len ≡ written s
+    (forms policy steps len : ℕ) (s : List ℕ) (q : Request) → reading forms policy steps s ≡ read q → length s ≤ len
+    → writing (lentAfter forms policy steps (read q)) len ≡ written s
 trip-read = read-then-write
 
 -- '3, 4 or 5 at the line where the text would have it': of tables with room whose lines can all be said in shape (`Sayable`), the first

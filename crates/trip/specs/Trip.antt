@@ -24,7 +24,7 @@ use Rattle.trip.specs.Entries.{has-room, lent-back, said}
 
 -- Tables that pass every check.
 pub record Fine (t : Lent) : Type 0 where
-  pub room : hasRoom (length (t .formTable)) (length (t .lineTable)) (length (t .stepTable)) ≡ true
+  pub room : hasRoom (length (t .formTable)) (length (t .policyTable)) (length (t .stepTable)) ≡ true
   pub unrefused : Unrefused (requestOf t)
   pub past : pastZero t ≡ true
 
@@ -33,7 +33,7 @@ pub check-law :
     (t : Lent)
     → checked t
     ≡ firstMet
-    (answer (demand (hasRoom (length (t .formTable)) (length (t .lineTable)) (length (t .stepTable))) 13 0) 0 ∷
+    (answer (demand (hasRoom (length (t .formTable)) (length (t .policyTable)) (length (t .stepTable))) 13 0) 0 ∷
     (lineAnswers (requestOf t) ++ answer (demand (pastZero t) 3 0) 0 ∷ []))
 unfolding checked
 check-law t = refl
@@ -84,15 +84,15 @@ write-again t len g h = rw (fine-checked t g, le-leb (length (requestText (reque
 
 -- A text in the lent room, short enough, is read as it stands.
 read-law :
-    (forms lines steps : ℕ) (s : List ℕ) → hasRoom forms lines steps ≡ true → length s ≤ 65536 → reading forms lines steps s ≡ readRequest s
+    (forms policy steps : ℕ) (s : List ℕ) → hasRoom forms policy steps ≡ true → length s ≤ 65536 → reading forms policy steps s ≡ readRequest s
 unfolding reading
 read-law f l n s r h = rw (r, le-leb (length s) 65536 h)
 
-pub record Got (forms lines steps : ℕ) (s : List ℕ) (q : Request) : Type 0 where
-  pub room : hasRoom forms lines steps ≡ true
+pub record Got (forms policy steps : ℕ) (s : List ℕ) (q : Request) : Type 0 where
+  pub room : hasRoom forms policy steps ≡ true
   pub request : readRequest s ≡ read q
 
-pub got : (forms lines steps : ℕ) (s : List ℕ) (q : Request) → reading forms lines steps s ≡ read q → Got forms lines steps s q
+pub got : (forms policy steps : ℕ) (s : List ℕ) (q : Request) → reading forms policy steps s ≡ read q → Got forms policy steps s q
 unfolding reading
 got f l n s q e = go (hasRoom f l n) (leb (length s) 65536) refl e
   where
@@ -105,10 +105,10 @@ got f l n s q e = go (hasRoom f l n) (leb (length s) 65536) refl e
 
 -- Reading a text with tables lent as long as those of t, and what that leaves in them.
 abbrev pub readFor : Lent → List ℕ → Outcome
-readFor t s = reading (length (t .formTable)) (length (t .lineTable)) (length (t .stepTable)) s
+readFor t s = reading (length (t .formTable)) (length (t .policyTable)) (length (t .stepTable)) s
 
 abbrev pub leftFor : Lent → List ℕ → Lent
-leftFor t s = lentAfter (length (t .formTable)) (length (t .lineTable)) (length (t .stepTable)) (readFor t s)
+leftFor t s = lentAfter (length (t .formTable)) (length (t .policyTable)) (length (t .stepTable)) (readFor t s)
 
 pub write-then-read :
     (t : Lent) (len : ℕ) (s : List ℕ) → writing t len ≡ written s → (readFor t s ≡ read (requestOf t)) × (leftFor t s ≡ t)
@@ -116,7 +116,7 @@ write-then-read t len s e =
     let w = wrote t len s e in
     let g = w .fine in
     let h = text-fits (requestOf t) (g .unrefused) in
-    let r = read-law (length (t .formTable)) (length (t .lineTable)) (length (t .stepTable)) (requestText (requestOf t)) (g .room) h in
+    let r = read-law (length (t .formTable)) (length (t .policyTable)) (length (t .stepTable)) (requestText (requestOf t)) (g .room) h in
     let b = text-reads (requestOf t) (g .unrefused) in
     let x : readFor t s ≡ read (requestOf t) = cc (w .text) in
     let y = lent-back t (has-room _ _ _ (g .room)) (g .unrefused) (g .past) in
@@ -124,8 +124,8 @@ write-then-read t len s e =
 
 -- What was read stands in tables that pass every check, and they say the request that was read.
 pub read-fine :
-    (forms lines steps : ℕ) (s : List ℕ) (q : Request) → reading forms lines steps s ≡ read q
-    → Fine (lentOf forms lines steps q) × (requestOf (lentOf forms lines steps q) ≡ q)
+    (forms policy steps : ℕ) (s : List ℕ) (q : Request) → reading forms policy steps s ≡ read q
+    → Fine (lentOf forms policy steps q) × (requestOf (lentOf forms policy steps q) ≡ q)
 read-fine f l n s q e =
     let g = got f l n s q e in
     let k = read-unrefused s q (g .request) in
@@ -133,8 +133,8 @@ read-fine f l n s q e =
     (record { room = rw (d .form-room, d .line-room, d .step-room) (g .room); unrefused = rw (d .back) k; past = d .past }, d .back)
 
 pub read-then-write :
-    (forms lines steps len : ℕ) (s : List ℕ) (q : Request) → reading forms lines steps s ≡ read q → length s ≤ len
-    → writing (lentAfter forms lines steps (read q)) len ≡ written s
+    (forms policy steps len : ℕ) (s : List ℕ) (q : Request) → reading forms policy steps s ≡ read q → length s ≤ len
+    → writing (lentAfter forms policy steps (read q)) len ≡ written s
 unfolding lentAfter
 read-then-write f l n len s q e h =
     let d = read-fine f l n s q e in

@@ -28,7 +28,7 @@ pub data LineAlike (q r : Request) (i : ℕ) : Type 0 where
 pub record Alike (q r : Request) : Type 0 where
   pub principals : q .principals ≡ r .principals
   pub atoms : q .atoms ≡ r .atoms
-  pub count : length (q .lines) ≡ length (r .lines)
-  pub lines : (i : ℕ) → i < length (q .lines) → LineAlike q r i
+  pub count : length (q .policy) ≡ length (r .policy)
+  pub policy : (i : ℕ) → i < length (q .policy) → LineAlike q r i
   pub goal : goalOf q ≡ goalOf r
   pub steps : stepsOf q ≡ stepsOf r

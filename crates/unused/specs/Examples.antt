@@ -21,7 +21,7 @@ p1 forms lines goal =
       principals = 2;
       atoms = 1;
       forms = forms;
-      lines = lines;
+      policy = lines;
       goal = goal;
       steps = row 7 0 0 ∷ row 10 0 0 ∷ row 11 0 0 ∷ row 4 0 0 ∷ row 7 2 0 ∷ row 10 1 0 ∷ row 11 0 0 ∷ [];
     }
@@ -52,7 +52,7 @@ line (suc (suc (suc (suc i)))) b = absurd (omega arith)
 
 pub ours-theirs : Alike ours theirs
 unfolding goalOf stepsOf
-ours-theirs = record { principals = refl; atoms = refl; count = refl; lines = line; goal = refl; steps = refl }
+ours-theirs = record { principals = refl; atoms = refl; count = refl; policy = line; goal = refl; steps = refl }
 
 pub ours-granted : stepsAnswer ours ≡ answer 0 0
 unfolding stepsAnswer

@@ -67,9 +67,9 @@ start-twins : (used : ℕ → Type 0) (k : ℕ) (fs gs : List Form) (g : Form) �
 unfolding start
 start-twins used k fs gs g e a = rw (← e) (twin a none)
 
-policy-count : (q : Request) → length (policyOf q) ≡ length (q .lines)
+policy-count : (q : Request) → length (policyOf q) ≡ length (q .policy)
 unfolding policyOf
-policy-count q = length-map (q .lines) (formula (q .forms))
+policy-count q = length-map (q .policy) (formula (q .forms))
 
 pub starts-alike : (q r : Request) → Alike q r → Twins (λ i. Used i (stepsOf q)) (startOf q ∷ []) (startOf r ∷ [])
 unfolding startOf policyLine
@@ -81,7 +81,7 @@ starts-alike q r a =
     long = policy-count q ∙ a .count ∙ sym (policy-count r)
 
     each : (i : ℕ) → i < length (policyOf q) → LineAlike q r i
-    each i b = a .lines i (rw (policy-count q) at b)
+    each i b = a .policy i (rw (policy-count q) at b)
 
     facts : rootFacts (policyOf q) ≡ rootFacts (policyOf r)
     facts = facts-same (policyOf q) (policyOf r) long (λ i b. line-fact q r i (each i b))

@@ -34,7 +34,7 @@ use Rattle.walks.specs.Simulation.{begins}
 
 -- The machine's record after the first i steps of the tables: each was judged while something was open, and its move was made.
 pub data MachineAt (t : Lent) : ℕ → State → Type 0 where
-  begin : MachineAt t 0 (begun (t .formTable) (t .lineTable) (t .lines) (t .goal))
+  begin : MachineAt t 0 (begun (t .formTable) (t .policyTable) (t .policy) (t .goal))
   make : {i : ℕ} {s : State} {m : Move} → MachineAt t i s → eqb (s .opened) 0 ≡ false →
       judgedNow (t .formTable) s (stepIn (t .stepTable) i) ≡ Fits m → MachineAt t (suc i) (moved s m)
 
@@ -80,7 +80,7 @@ module _ (t : Lent) (p : Passed t) where
           let h = walk-too (stepped r (stepIn (t .stepTable) i)) m e in (h .0 ++ waiting, go-on w (h .1) (h .2), h .3)
 
   walk-machine : {i : ℕ} {os : List Obligation} → WalkAt t i os → (s : State) × MachineAt t i s × Related T s os
-  walk-machine start = (begun (t .formTable) (t .lineTable) (t .lines) (t .goal), begin, begins t p)
+  walk-machine start = (begun (t .formTable) (t .policyTable) (t .policy) (t .goal), begin, begins t p)
   walk-machine (go-on {i} {o} {new} {waiting} w e v) =
       let h = walk-machine w in
       let g = machine-too (stepped (h .2) (stepIn (t .stepTable) i)) new e v in

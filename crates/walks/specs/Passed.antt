@@ -9,7 +9,7 @@ use lib.Seq.{length-take-le}
 use Rattle.scope.specs.File.Request.{Row}
 use Rattle.scope.specs.File.Kinds.{formKinds}
 use Rattle.scope.specs.File.Refusals.{formRefusal}
-use Rattle.scope.specs.Call.Tables.{Lent, formEntry, lineEntry, unpack, requestOf}
+use Rattle.scope.specs.Call.Tables.{Lent, formEntry, policyEntry, unpack, requestOf}
 use Rattle.scope.specs.Tools.Unpack.{unpack-length}
 use Rattle.trip.specs.RowRanges as ranges
 use Rattle.trip.specs.RowRanges.{row-passed}
@@ -21,8 +21,8 @@ use Rattle.walks.specs.Unpacked.{rowOf, form-at, line-at}
 pub record Passed (t : Lent) : Type 0 where
   pub few-principals : t .principals ≤ 16
   pub each-row : (f : ℕ) → f < t .formulas → ranges.Passed formKinds (t .principals) (t .atoms) f (rowOf (t .formTable) f)
-  pub few-lines : t .lines ≤ 128
-  pub each-line : (i : ℕ) → i < t .lines → getD (t .lineTable) i 0 < t .formulas
+  pub few-lines : t .policy ≤ 128
+  pub each-line : (i : ℕ) → i < t .policy → getD (t .policyTable) i 0 < t .formulas
   pub goal-named : t .goal < t .formulas
 
 row-at : (k n : ℕ) (rs : List Row) → Each (λ before r. formRefusal k n before r ≡ 0) (length rs) [] rs →
@@ -36,7 +36,7 @@ pub unrefused-passed : (t : Lent) → Unrefused (requestOf t) → Passed t
 unfolding requestOf
 unrefused-passed t s =
     let nf = unpack-length formEntry (t .formulas) (t .formTable) in
-    let nl = unpack-length lineEntry (t .lines) (t .lineTable) in
+    let nl = unpack-length policyEntry (t .policy) (t .policyTable) in
     record {
       few-principals = count-passed 1 16 (t .principals) (s .principals) .high;
       each-row =
@@ -46,8 +46,8 @@ unrefused-passed t s =
       few-lines = rw nl at (count-passed 0 128 _ (s .clauses) .high);
       each-line =
           λ i h.
-          let low : i < length (unpack lineEntry (t .lines) (t .lineTable)) = rw nl h in
-          rw (line-at (t .lines) i (t .lineTable) h, nf) at
-          (clause-named _ _ (each-at (s .lines) 0 i low));
+          let low : i < length (unpack policyEntry (t .policy) (t .policyTable)) = rw nl h in
+          rw (line-at (t .policy) i (t .policyTable) h, nf) at
+          (clause-named _ _ (each-at (s .policy) 0 i low));
       goal-named = rw nf at (goal-named _ _ (s .goal));
     }

@@ -8,7 +8,7 @@ use lib.ListN.{getD, take, drop}
 use lib.Seq.{getD-take, getD-drop, drop-drop}
 use Rattle.scope.specs.File.Request.{Row}
 use Rattle.scope.specs.Logic.Obligation.{stepOf}
-use Rattle.scope.specs.Call.Tables.{Entry, formEntry, lineEntry, stepEntry, unpack}
+use Rattle.scope.specs.Call.Tables.{Entry, formEntry, policyEntry, stepEntry, unpack}
 use Rattle.steps.specs.Steps.{stepIs, step-means}
 use Rattle.moves.specs.Judge.{rowAt}
 use Rattle.machine.specs.Machine.{stepIn}
@@ -44,11 +44,11 @@ form-at n f t d h =
     unpack-at formEntry n f t d h ∙
     rw (first-at 3 (f * 3) t a, number-at 3 1 (f * 3) t b, number-at 3 2 (f * 3) t c) refl
 
-pub line-at : (n i : ℕ) (t : List ℕ) → i < n → getD (unpack lineEntry n t) i 0 ≡ getD t i 0
+pub line-at : (n i : ℕ) (t : List ℕ) → i < n → getD (unpack policyEntry n t) i 0 ≡ getD t i 0
 line-at n i t h =
     let a : 0 < 1 = omega arith in
     let place : i * 1 ≡ i = omega arith in
-    unpack-at lineEntry n i t 0 h ∙ first-at 1 (i * 1) t a ∙ ap (λ (k : ℕ). getD t k 0) place
+    unpack-at policyEntry n i t 0 h ∙ first-at 1 (i * 1) t a ∙ ap (λ (k : ℕ). getD t k 0) place
 
 -- A step by its two numbers.
 step-at : (t : List ℕ) (i : ℕ) → stepIs (stepIn t i) ≡ stepOf (stepEntry .get (take 2 (drop (i * 2) t)))

@@ -8,7 +8,7 @@ use lib.ListN.{length, take, drop}
 use Rattle.scope.specs.File.Bytes.{joined}
 use Rattle.scope.specs.File.Line.{Line, lineText, manyText, countedText}
 use Rattle.scope.specs.File.Text.{versionLine, principalsLine, atomsLine, formulasLine, formLine, clausesLine, clauseLine, goalLine, stepsLine, stepLine, requestText}
-use Rattle.scope.specs.Call.Tables.{Lent, Entry, unpack, formEntry, lineEntry, stepEntry, requestOf}
+use Rattle.scope.specs.Call.Tables.{Lent, Entry, unpack, formEntry, policyEntry, stepEntry, requestOf}
 use Rattle.classes.specs.Rows.{unpack-turn, unpack-length}
 use Rattle.writer.specs.Puts.{Puts, puts-then, puts-same}
 
@@ -23,7 +23,7 @@ unfoldable pub formulasText : ℕ → List ℕ → List ℕ
 formulasText n t = lineText formulasLine n ++ tableText formLine formEntry n t
 
 unfoldable pub policyText : ℕ → List ℕ → List ℕ
-policyText n t = lineText clausesLine n ++ tableText clauseLine lineEntry n t
+policyText n t = lineText clausesLine n ++ tableText clauseLine policyEntry n t
 
 unfoldable pub proofText : ℕ → ℕ → List ℕ → List ℕ
 proofText goal n t = (lineText goalLine goal ++ lineText stepsLine n) ++ tableText stepLine stepEntry n t
@@ -85,7 +85,7 @@ as-joined : (t : Lent) →
     lineText principalsLine (t .principals) ∷
     lineText atomsLine (t .atoms) ∷
     countedText formulasLine formLine (unpack formEntry (t .formulas) (t .formTable)) ∷
-    countedText clausesLine clauseLine (unpack lineEntry (t .lines) (t .lineTable)) ∷
+    countedText clausesLine clauseLine (unpack policyEntry (t .policy) (t .policyTable)) ∷
     lineText goalLine (t .goal) ∷
     countedText stepsLine stepLine (unpack stepEntry (t .steps) (t .stepTable)) ∷
     [])
@@ -94,7 +94,7 @@ as-joined t = refl
 
 -- The text of what counts and tables say is its four sections.
 pub request-text : (t : Lent) →
-    ((headText (t .principals) (t .atoms) ++ formulasText (t .formulas) (t .formTable)) ++ policyText (t .lines) (t .lineTable)) ++
+    ((headText (t .principals) (t .atoms) ++ formulasText (t .formulas) (t .formTable)) ++ policyText (t .policy) (t .policyTable)) ++
     proofText (t .goal) (t .steps) (t .stepTable) ≡
     requestText (requestOf t)
 unfolding headText formulasText policyText proofText joined
@@ -103,13 +103,13 @@ request-text t =
     let p = lineText principalsLine (t .principals) in
     let a = lineText atomsLine (t .atoms) in
     let f = countedText formulasLine formLine (unpack formEntry (t .formulas) (t .formTable)) in
-    let c = countedText clausesLine clauseLine (unpack lineEntry (t .lines) (t .lineTable)) in
+    let c = countedText clausesLine clauseLine (unpack policyEntry (t .policy) (t .policyTable)) in
     let g = lineText goalLine (t .goal) in
     let n = lineText stepsLine (t .steps) in
     let z = tableText stepLine stepEntry (t .steps) (t .stepTable) in
-    ap (λ (l : List ℕ). ((((v ++ p) ++ a) ++ l) ++ policyText (t .lines) (t .lineTable)) ++ ((g ++ n) ++ z))
+    ap (λ (l : List ℕ). ((((v ++ p) ++ a) ++ l) ++ policyText (t .policy) (t .policyTable)) ++ ((g ++ n) ++ z))
     (sym (counted-same formulasLine formLine formEntry (t .formulas) (t .formTable))) ∙
-    ap (λ (l : List ℕ). ((((v ++ p) ++ a) ++ f) ++ l) ++ ((g ++ n) ++ z)) (sym (counted-same clausesLine clauseLine lineEntry (t .lines) (t .lineTable))) ∙
+    ap (λ (l : List ℕ). ((((v ++ p) ++ a) ++ f) ++ l) ++ ((g ++ n) ++ z)) (sym (counted-same clausesLine clauseLine policyEntry (t .policy) (t .policyTable))) ∙
     regroup v p a f c g n z ∙
     ap (λ (l : List ℕ). v ++ (p ++ (a ++ (f ++ (c ++ (g ++ (l ++ [])))))))
     (sym (counted-same stepsLine stepLine stepEntry (t .steps) (t .stepTable))) ∙

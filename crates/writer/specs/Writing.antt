@@ -13,9 +13,9 @@ use Rattle.scope.specs.Call.Checked.{checked}
 use Rattle.scope.specs.Call.Calls.{Written, written, unwritten, writtenIf, writing, writtenAnswer, textIn, outputAfter}
 use Rattle.common.specs.Answers.{answerOf, answerIs}
 use Rattle.common.specs.declared.Answer.{Answer as Returned}
-use Rattle.tables.specs.declared.Checked.{Checked}
-use Rattle.tables.specs.declared.Checked.the-variants.{Fine, Refused}
-use Rattle.tables.specs.Met.{checkedOf}
+use Rattle.checks.specs.declared.Checked.{Checked}
+use Rattle.checks.specs.declared.Checked.the-variants.{Fine, Refused}
+use Rattle.checks.specs.Met.{checkedOf}
 use Rattle.writer.specs.declared.Writing.{Writing}
 
 -- 'Its answer gives the text's length, 0 if refused.'
@@ -31,7 +31,7 @@ zeros-left : (len : ℕ) (w : Written) → textIn w ≡ [] → replicate len 0 �
 unfolding outputAfter padded
 zeros-left len w e = rw e (ap (λ (n : ℕ). replicate n 0) (sym (sub-zero len)))
 
-if-refused : (a : Answer) (s : List ℕ) (len : ℕ) (r : Returned) → checkedOf a ≡ Refused r → writtenIf a s len ≡ unwritten (answer (r .number) (r .place))
+if-refused : (a : Answer) (s : List ℕ) (len : ℕ) (r : Returned) → checkedOf a ≡ Refused r → writtenIf a s len ≡ unwritten (answerIs r)
 unfolding checkedOf writtenIf
 if-refused (answer zero place) s len r e = never cc
 if-refused (answer (suc k) place) s len r e =
@@ -57,7 +57,7 @@ pub ends-refused : (t : Lent) (len : ℕ) (c : Checked) (r : Returned) → c ≡
     (refusedAs c ≡ writingOf (writing t len)) × (replicate len 0 ≡ outputAfter len (writing t len))
 unfolding refusedAs writingOf writtenAnswer textIn refusalIn placeIn
 ends-refused t len c r e f =
-    let w : writing t len ≡ unwritten (answer (r .number) (r .place)) =
+    let w : writing t len ≡ unwritten (answerIs r) =
     writing-is t len ∙ if-refused (checked t) (requestText (requestOf t)) len r (sym e ∙ f) in
     (ap refusedAs f ∙ ap writingOf (sym w), zeros-left len (writing t len) (ap textIn w))
 

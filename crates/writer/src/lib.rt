@@ -1,7 +1,7 @@
 // The writer: the text of lent tables, or the refusal of what no text says.
+use checks::Checked;
 use common::Counts;
 use sections::put_request;
-use tables::Checked;
 
 mod digits;
 mod put_lines;
@@ -10,7 +10,7 @@ mod sections;
 ghost use mathlib.Core.Path.{_≡_};
 ghost use lib.ListN.{length, replicate};
 ghost use Rattle.scope.specs.Call.Calls.{writing, outputAfter};
-ghost use Rattle.tables.specs.Met.{lentWith};
+ghost use Rattle.checks.specs.Met.{lentWith};
 ghost use Rattle.writer.specs.Writing.{writingOf, refusedAs};
 
 // The refusal, 0 where there is none, its place, and the text's length, 0 if refused.
@@ -31,6 +31,7 @@ fn zero_all(out: &mut [u8])
     }
 }
 
+// Called on a refusal alone: nothing reaches the first case.
 fn refused_as(checked: Checked) -> Writing
     ensures { λ r. ⌜ r ≡ refusedAs checked ⌝ }
 {
@@ -48,16 +49,22 @@ fn refused_as(checked: Checked) -> Writing
     }
 }
 
-pub fn write(counts: Counts, forms: &[u16], lines: &[u16], steps: &[u16], out: &mut [u8]) -> Writing
-    ensures answered { λ r. ⌜ r ≡ writingOf (writing (lentWith counts (now (forms .entry)) (now (lines .entry)) (now (steps .entry))) (length (now (out .entry)))) ⌝ }
-    ensures output { λ _. ⌜ now (out .exit) ≡ outputAfter (length (now (out .entry))) (writing (lentWith counts (now (forms .entry)) (now (lines .entry)) (now (steps .entry))) (length (now (out .entry)))) ⌝ }
+pub fn write(
+    counts: Counts,
+    forms: &[u16],
+    policy: &[u16],
+    steps: &[u16],
+    out: &mut [u8],
+) -> Writing
+    ensures answered { λ r. ⌜ r ≡ writingOf (writing (lentWith counts (now (forms .entry)) (now (policy .entry)) (now (steps .entry))) (length (now (out .entry)))) ⌝ }
+    ensures output { λ _. ⌜ now (out .exit) ≡ outputAfter (length (now (out .entry))) (writing (lentWith counts (now (forms .entry)) (now (policy .entry)) (now (steps .entry))) (length (now (out .entry)))) ⌝ }
 {
     zero_all(out);
-    let checked = tables::check_tables(counts, forms, lines, steps);
+    let checked = checks::check_tables(counts, forms, policy, steps);
     let Checked::Fine = checked else {
         return refused_as(checked);
     };
-    let length = put_request(counts, forms, lines, steps, out);
+    let length = put_request(counts, forms, policy, steps, out);
     if out.len() < length {
         zero_all(out);
         return Writing {

@@ -6,8 +6,8 @@ use common::Counts;
 ghost use Prim.Native.Nat.{_<_, _+_, _*_};
 ghost use Rattle.scope.specs.File.Line.{lineText, manyText};
 ghost use Rattle.scope.specs.File.Text.{formLine, clauseLine, stepLine, requestText};
-ghost use Rattle.scope.specs.Call.Tables.{unpack, formEntry, lineEntry, stepEntry, requestOf};
-ghost use Rattle.tables.specs.Met.{lentWith};
+ghost use Rattle.scope.specs.Call.Tables.{unpack, formEntry, policyEntry, stepEntry, requestOf};
+ghost use Rattle.checks.specs.Met.{lentWith};
 ghost use Rattle.writer.specs.Puts.{Puts};
 ghost use Rattle.writer.specs.Sections.{headText, formulasText, policyText, proofText};
 
@@ -35,14 +35,14 @@ fn put_clause(out: &mut [u8], at: usize, formula: u16) -> usize
     put_count(out, at, b"clause=", formula)
 }
 
-fn put_lines(out: &mut [u8], at: usize, count: u16, lines: &[u16]) -> usize
+fn put_lines(out: &mut [u8], at: usize, count: u16, policy: &[u16]) -> usize
     requires { ⌜ at < 6000000 ⌝ }
-    ensures { λ r. ⌜ Puts (now (out .entry)) at (manyText (lineText clauseLine) (unpack lineEntry count (now (lines .entry)))) (22 * count) (now (out .exit)) r ⌝ }
+    ensures { λ r. ⌜ Puts (now (out .entry)) at (manyText (lineText clauseLine) (unpack policyEntry count (now (policy .entry)))) (22 * count) (now (out .exit)) r ⌝ }
 {
     let mut end = at;
     let mut i: u16 = 0;
     while i < count {
-        let formula = common::entry_at(lines, i as usize);
+        let formula = common::entry_at(policy, i as usize);
         end = put_clause(out, end, formula);
         i += 1;
     }
@@ -81,12 +81,12 @@ fn put_formulas(out: &mut [u8], at: usize, count: u16, forms: &[u16]) -> usize
     put_forms(out, next, count, forms)
 }
 
-fn put_policy(out: &mut [u8], at: usize, count: u16, lines: &[u16]) -> usize
+fn put_policy(out: &mut [u8], at: usize, count: u16, policy: &[u16]) -> usize
     requires { ⌜ at < 5000000 ⌝ }
-    ensures { λ r. ⌜ Puts (now (out .entry)) at (policyText count (now (lines .entry))) (22 + 22 * count) (now (out .exit)) r ⌝ }
+    ensures { λ r. ⌜ Puts (now (out .entry)) at (policyText count (now (policy .entry))) (22 + 22 * count) (now (out .exit)) r ⌝ }
 {
     let next = put_count(out, at, b"clauses=", count);
-    put_lines(out, next, count, lines)
+    put_lines(out, next, count, policy)
 }
 
 fn put_proof(out: &mut [u8], at: usize, goal: u16, count: u16, steps: &[u16]) -> usize
@@ -102,14 +102,14 @@ fn put_proof(out: &mut [u8], at: usize, goal: u16, count: u16, steps: &[u16]) ->
 pub(crate) fn put_request(
     counts: Counts,
     forms: &[u16],
-    lines: &[u16],
+    policy: &[u16],
     steps: &[u16],
     out: &mut [u8],
 ) -> usize
-    ensures { λ r. ⌜ Puts (now (out .entry)) 0 (requestText (requestOf (lentWith counts (now (forms .entry)) (now (lines .entry)) (now (steps .entry))))) (66 + (22 + 45 * counts .formulas) + (22 + 22 * counts .lines) + (44 + 45 * counts .steps)) (now (out .exit)) r ⌝ }
+    ensures { λ r. ⌜ Puts (now (out .entry)) 0 (requestText (requestOf (lentWith counts (now (forms .entry)) (now (policy .entry)) (now (steps .entry))))) (66 + (22 + 45 * counts .formulas) + (22 + 22 * counts .policy) + (44 + 45 * counts .steps)) (now (out .exit)) r ⌝ }
 {
     let formulas = put_head(out, counts.principals, counts.atoms);
-    let policy = put_formulas(out, formulas, counts.formulas, forms);
-    let proof = put_policy(out, policy, counts.lines, lines);
+    let clauses = put_formulas(out, formulas, counts.formulas, forms);
+    let proof = put_policy(out, clauses, counts.policy, policy);
     put_proof(out, proof, counts.goal, counts.steps, steps)
 }

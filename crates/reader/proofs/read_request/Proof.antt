@@ -5,7 +5,7 @@ use lib.ListN.{length, replicate}
 use borrow.Author.Tests.{not-true, not-false}
 use Rattle.scope.specs.Call.Answer.{answer}
 use Rattle.scope.specs.File.Reader.{Outcome, refused, readRequest}
-use Rattle.scope.specs.Call.Tables.{table, formEntry, lineEntry, stepEntry, hasRoom}
+use Rattle.scope.specs.Call.Tables.{table, formEntry, policyEntry, stepEntry, hasRoom}
 use Rattle.scope.specs.Call.Calls.{reading}
 use Rattle.reader.specs.Answers.{refusalIs, readingOf}
 use Rattle.reader.specs.Outcomes.{refused-answer, refused-outcome, read-outcome, no-room, too-long, in-order, Cleared, tables-zero, forms-stored, lines-stored, steps-stored, room-is}
@@ -35,7 +35,7 @@ abbrev cleared : (c : tie.After-has-room) → Cleared
 cleared c =
     record {
       formTable = c .before .before .before .before .before .before .before .before .before .before .before .zero-table .last .0;
-      lineTable = c .before .before .before .before .before .before .before .zero-table2 .last .0;
+      policyTable = c .before .before .before .before .before .before .before .zero-table2 .last .0;
       stepTable = c .before .before .before .zero-table3 .last .0;
       formsClear = c .before .before .before .before .before .before .before .before .before .before .before .zero-table .ensures;
       linesClear = c .before .before .before .before .before .before .before .zero-table2 .ensures;
@@ -156,7 +156,7 @@ returns-3 c =
           (c .before .before .before .before .before .before .before .before .before .before .before .before .before .before .before .before .before .before .before .before .before .before .before .before))),
       tables-zero record {
         formTable = c .before .before .before .before .before .before .before .before .before .before .zero-table4 .last .0;
-        lineTable = c .before .before .before .before .before .before .zero-table5 .last .0;
+        policyTable = c .before .before .before .before .before .before .zero-table5 .last .0;
         stepTable = c .before .before .zero-table6 .last .0;
         formsClear = c .before .before .before .before .before .before .before .before .before .before .zero-table4 .ensures ∙ ap
             (λ n. replicate n 0) (c .before .before .before .before .before .before .before .before .before .before .before .before .before .before .before .before .before .before .before .before .read-parts .kept .1 .0 ∙
@@ -207,7 +207,7 @@ returns-4 c =
             (c .before .before .before .before .before .before .before .before .before .before .before .before .before .before)) q o,
         (
           c .before .before .before .before .before .before .before .before .read-parts .ensures .1 .1 .0 q (r .is) ∙ ap
-              (λ n. table lineEntry n (q .lines))
+              (λ n. table policyEntry n (q .policy))
               (c .before .before .before .before .before .before .before .before .before .before .before .before .before .before .before .before .before .before .before .before .before .zero-table2 .kept .0) ∙
               lines-stored _ (asked
               (c .before .before .before .before .before .before .before .before .before .before .before .before .before .before)) q o,

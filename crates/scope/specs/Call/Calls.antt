@@ -9,14 +9,14 @@ use Rattle.scope.specs.Call.Answer.{Answer, answer}
 use Rattle.scope.specs.Limits.{mostBytes}
 use Rattle.scope.specs.File.Text.{requestText}
 use Rattle.scope.specs.File.Reader.{Outcome, read, refused, readRequest}
-use Rattle.scope.specs.Call.Tables.{Lent, formEntry, lineEntry, stepEntry, padded, table, hasRoom, requestOf, lentOf}
+use Rattle.scope.specs.Call.Tables.{Lent, formEntry, policyEntry, stepEntry, padded, table, hasRoom, requestOf, lentOf}
 use Rattle.scope.specs.Call.Checked.{checked}
 
 -- 'Order: 13, 1, then lines in order.' The tables are lent with these lengths.
 unfoldable pub reading : ℕ → ℕ → ℕ → List ℕ → Outcome
 unfolding hasRoom readRequest
-reading forms lines steps s =
-    cond (hasRoom forms lines steps) (cond (leb (length s) mostBytes) (readRequest s) (refused (answer 1 0))) (refused (answer 13 0))
+reading forms policy steps s =
+    cond (hasRoom forms policy steps) (cond (leb (length s) mostBytes) (readRequest s) (refused (answer 1 0))) (refused (answer 13 0))
 
 unfoldable pub outcomeAnswer : Outcome → Answer
 outcomeAnswer (read q) = answer 0 0
@@ -24,7 +24,7 @@ outcomeAnswer (refused a) = a
 
 -- 'The counts and the goal come in the answer; after a refusal they are 0.'
 abbrev pub noRequest : Request
-noRequest = record { principals = 0; atoms = 0; forms = []; lines = []; goal = 0; steps = [] }
+noRequest = record { principals = 0; atoms = 0; forms = []; policy = []; goal = 0; steps = [] }
 
 unfoldable pub requestIn : Outcome → Request
 requestIn (read q) = q
@@ -35,9 +35,9 @@ unfoldable pub formTableAfter : ℕ → Outcome → List ℕ
 unfolding table requestIn
 formTableAfter len o = table formEntry len (requestIn o .forms)
 
-unfoldable pub lineTableAfter : ℕ → Outcome → List ℕ
+unfoldable pub policyTableAfter : ℕ → Outcome → List ℕ
 unfolding table requestIn
-lineTableAfter len o = table lineEntry len (requestIn o .lines)
+policyTableAfter len o = table policyEntry len (requestIn o .policy)
 
 unfoldable pub stepTableAfter : ℕ → Outcome → List ℕ
 unfolding table requestIn
@@ -46,7 +46,7 @@ stepTableAfter len o = table stepEntry len (requestIn o .steps)
 -- Counts, goal and tables together.
 unfoldable pub lentAfter : ℕ → ℕ → ℕ → Outcome → Lent
 unfolding lentOf requestIn
-lentAfter forms lines steps o = lentOf forms lines steps (requestIn o)
+lentAfter forms policy steps o = lentOf forms policy steps (requestIn o)
 
 pub data Written : Type 0 where
   written : List ℕ → Written

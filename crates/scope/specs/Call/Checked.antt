@@ -34,13 +34,13 @@ lineAnswers q =
     answer (formulasRefusal (length (q .forms))) formulasAt ∷
     []) ∷
     eachOf (λ before r. answer (formRefusal (q .principals) (q .atoms) before r) (formAt (length before))) [] (q .forms) ∷
-    (answer (clausesRefusal (length (q .lines))) (clausesAt (length (q .forms))) ∷ []) ∷
-    eachOf (λ before f. answer (clauseRefusal (q .forms) f) (clauseAt (length (q .forms)) (length before))) [] (q .lines) ∷
-    (answer (goalRefusal (q .forms) (q .goal)) (goalAt (length (q .forms)) (length (q .lines))) ∷
-    answer (stepsRefusal (length (q .steps))) (stepsAt (length (q .forms)) (length (q .lines))) ∷
+    (answer (clausesRefusal (length (q .policy))) (clausesAt (length (q .forms))) ∷ []) ∷
+    eachOf (λ before f. answer (clauseRefusal (q .forms) f) (clauseAt (length (q .forms)) (length before))) [] (q .policy) ∷
+    (answer (goalRefusal (q .forms) (q .goal)) (goalAt (length (q .forms)) (length (q .policy))) ∷
+    answer (stepsRefusal (length (q .steps))) (stepsAt (length (q .forms)) (length (q .policy))) ∷
     []) ∷
     eachOf
-    (λ before r. answer (stepRefusal r) (stepAt (length (q .forms)) (length (q .lines)) (suc (length before))))
+    (λ before r. answer (stepRefusal r) (stepAt (length (q .forms)) (length (q .policy)) (suc (length before))))
     []
     (q .steps) ∷
     [])
@@ -56,14 +56,14 @@ unfolding both allZero
 pastZero t =
     both
     (allZero (drop (3 * t .formulas) (t .formTable)))
-    (both (allZero (drop (t .lines) (t .lineTable))) (allZero (drop (2 * t .steps) (t .stepTable))))
+    (both (allZero (drop (t .policy) (t .policyTable))) (allZero (drop (2 * t .steps) (t .stepTable))))
 
 unfoldable pub checked : Lent → Answer
 unfolding firstMet joined demand hasRoom requestOf lineAnswers pastZero
 checked t =
     firstMet
     (joined
-    ((answer (demand (hasRoom (length (t .formTable)) (length (t .lineTable)) (length (t .stepTable))) 13 0) 0 ∷ []) ∷
+    ((answer (demand (hasRoom (length (t .formTable)) (length (t .policyTable)) (length (t .stepTable))) 13 0) 0 ∷ []) ∷
     lineAnswers (requestOf t) ∷
     (answer (demand (pastZero t) 3 0) 0 ∷ []) ∷
     []))

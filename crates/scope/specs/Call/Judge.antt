@@ -17,7 +17,7 @@ use Rattle.scope.specs.Call.Calls.{reading}
 -- The policy, the goal and the steps that a request means.
 unfoldable pub policyOf : Request → List Form
 unfolding formula
-policyOf q = map (formula (q .forms)) (q .lines)
+policyOf q = map (formula (q .forms)) (q .policy)
 
 unfoldable pub goalOf : Request → Form
 unfolding formula

@@ -14,11 +14,11 @@ pub record Lent : Type 0 where
   pub principals : ℕ
   pub atoms : ℕ
   pub formulas : ℕ
-  pub lines : ℕ
+  pub policy : ℕ
   pub goal : ℕ
   pub steps : ℕ
   pub formTable : List ℕ
-  pub lineTable : List ℕ
+  pub policyTable : List ℕ
   pub stepTable : List ℕ
 
 -- How many numbers a thing takes in its table, the numbers of a thing, and the thing of that many numbers.
@@ -35,8 +35,8 @@ formEntry =
       get = λ l. record { kind = getD l 0 0; left = getD l 1 0; right = getD l 2 0 };
     }
 
-abbrev pub lineEntry : Entry ℕ
-lineEntry = record { width = 1; put = λ n. n ∷ []; get = λ l. getD l 0 0 }
+abbrev pub policyEntry : Entry ℕ
+policyEntry = record { width = 1; put = λ n. n ∷ []; get = λ l. getD l 0 0 }
 
 abbrev pub stepEntry : Entry Row
 stepEntry =
@@ -67,7 +67,7 @@ table e len xs = padded len (pack e xs)
 -- 'Each table has room for the largest count or the call is refused.'
 unfoldable pub hasRoom : ℕ → ℕ → ℕ → Bool
 unfolding both
-hasRoom forms lines steps = both (leb (3 * mostFormulas) forms) (both (leb mostPolicyLines lines) (leb (2 * mostSteps) steps))
+hasRoom forms policy steps = both (leb (3 * mostFormulas) forms) (both (leb mostPolicyLines policy) (leb (2 * mostSteps) steps))
 
 -- The request that counts and tables say.
 unfoldable pub requestOf : Lent → Request
@@ -77,7 +77,7 @@ requestOf t =
       principals = t .principals;
       atoms = t .atoms;
       forms = unpack formEntry (t .formulas) (t .formTable);
-      lines = unpack lineEntry (t .lines) (t .lineTable);
+      policy = unpack policyEntry (t .policy) (t .policyTable);
       goal = t .goal;
       steps = unpack stepEntry (t .steps) (t .stepTable);
     }
@@ -85,15 +85,15 @@ requestOf t =
 -- The counts and tables that say a request, in tables of these lengths.
 unfoldable pub lentOf : ℕ → ℕ → ℕ → Request → Lent
 unfolding table
-lentOf forms lines steps q =
+lentOf forms policy steps q =
     record {
       principals = q .principals;
       atoms = q .atoms;
       formulas = length (q .forms);
-      lines = length (q .lines);
+      policy = length (q .policy);
       goal = q .goal;
       steps = length (q .steps);
       formTable = table formEntry forms (q .forms);
-      lineTable = table lineEntry lines (q .lines);
+      policyTable = table policyEntry policy (q .policy);
       stepTable = table stepEntry steps (q .steps);
     }

@@ -32,15 +32,15 @@ requestLines = do
   principals ← line principalsLine principalsRefusal principalsAt
   atoms ← line atomsLine atomsRefusal atomsAt
   forms ← counted formulasLine formulasRefusal formulasAt (formItem principals atoms)
-  lines ← counted clausesLine clausesRefusal (clausesAt (length forms)) (clauseItem forms)
-  goal ← line goalLine (goalRefusal forms) (goalAt (length forms) (length lines))
-  steps ← counted stepsLine stepsRefusal (stepsAt (length forms) (length lines)) (stepItem (length forms) (length lines))
-  done record { principals = principals; atoms = atoms; forms = forms; lines = lines; goal = goal; steps = steps }
+  policy ← counted clausesLine clausesRefusal (clausesAt (length forms)) (clauseItem forms)
+  goal ← line goalLine (goalRefusal forms) (goalAt (length forms) (length policy))
+  steps ← counted stepsLine stepsRefusal (stepsAt (length forms) (length policy)) (stepItem (length forms) (length policy))
+  done record { principals = principals; atoms = atoms; forms = forms; policy = policy; goal = goal; steps = steps }
 
 -- 'Nothing follows.' 'bytes after the last step'
 unfoldable pub ended : Read Request → Outcome
 ended (ok q []) = read q
-ended (ok q (b ∷ rest)) = refused (answer 6 (endAt (length (q .forms)) (length (q .lines)) (length (q .steps))))
+ended (ok q (b ∷ rest)) = refused (answer 6 (endAt (length (q .forms)) (length (q .policy)) (length (q .steps))))
 ended (bad a) = refused a
 
 unfoldable pub readRequest : List ℕ → Outcome

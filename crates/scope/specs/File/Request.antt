@@ -16,7 +16,7 @@ pub record Request : Type 0 where
   pub principals : ℕ
   pub atoms : ℕ
   pub forms : List Row
-  pub lines : List ℕ
+  pub policy : List ℕ
   pub goal : ℕ
   pub steps : List Row
 

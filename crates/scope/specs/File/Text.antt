@@ -57,7 +57,7 @@ requestText q =
     lineText principalsLine (q .principals) ∷
     lineText atomsLine (q .atoms) ∷
     countedText formulasLine formLine (q .forms) ∷
-    countedText clausesLine clauseLine (q .lines) ∷
+    countedText clausesLine clauseLine (q .policy) ∷
     lineText goalLine (q .goal) ∷
     countedText stepsLine stepLine (q .steps) ∷
     [])

@@ -51,7 +51,7 @@ drop′ = row 16 0 0
 
 abbrev pub request : List Row → List ℕ → ℕ → List Row → Request
 request forms lines goal steps =
-    record { principals = 1; atoms = 1; forms = forms; lines = lines; goal = goal; steps = steps }
+    record { principals = 1; atoms = 1; forms = forms; policy = lines; goal = goal; steps = steps }
 
 -- Goal `top` under n nested `says`: n worlds beside the root.
 unfoldable pub nested : ℕ → Request

@@ -19,11 +19,11 @@ lent forms lines steps formulas goal count f l s =
       principals = 1;
       atoms = 1;
       formulas = formulas;
-      lines = 0;
+      policy = 0;
       goal = goal;
       steps = count;
       formTable = padded forms f;
-      lineTable = padded lines l;
+      policyTable = padded lines l;
       stepTable = padded steps s;
     }
 
@@ -120,11 +120,11 @@ pub what-is-read :
       principals = 3;
       atoms = 5;
       formulas = 4;
-      lines = 2;
+      policy = 2;
       goal = 3;
       steps = 3;
       formTable = 0 ∷ 4 ∷ 0 ∷ 7 ∷ 1 ∷ 2 ∷ 6 ∷ 2 ∷ 0 ∷ 3 ∷ 2 ∷ 0 ∷ replicate 3060 0;
-      lineTable = 1 ∷ 2 ∷ replicate 126 0;
+      policyTable = 1 ∷ 2 ∷ replicate 126 0;
       stepTable = 0 ∷ 0 ∷ 7 ∷ 7 ∷ 17 ∷ 0 ∷ replicate 4090 0;
     }
 unfolding lentAfter reading
@@ -138,11 +138,11 @@ pub nothing-is-read :
       principals = 0;
       atoms = 0;
       formulas = 0;
-      lines = 0;
+      policy = 0;
       goal = 0;
       steps = 0;
       formTable = 0 ∷ 0 ∷ 0 ∷ [];
-      lineTable = 0 ∷ 0 ∷ [];
+      policyTable = 0 ∷ 0 ∷ [];
       stepTable = 0 ∷ 0 ∷ 0 ∷ 0 ∷ [];
     }
 unfolding lentAfter

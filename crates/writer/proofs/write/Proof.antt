@@ -8,7 +8,7 @@ use lib.ListN.{length, replicate}
 use lib.Seq.{sets}
 use Rattle.scope.specs.File.Text.{requestText}
 use Rattle.scope.specs.Call.Tables.{requestOf, padded}
-use Rattle.tables.specs.Met.{lentWith}
+use Rattle.checks.specs.Met.{lentWith}
 use Rattle.writer.specs.Puts.{puts-zeros}
 use Rattle.writer.specs.Writing.{ends-refused, ends-short, ends-written}
 use Rattle.writer.proofs.write.Statement.{statement}
@@ -24,7 +24,7 @@ long-enough e k h = (omega arith, omega arith)
 returns : tie.Need-returns
 returns c =
     let a = c .before .before .before .before .before .before .before .before .before .before .before .before .args in
-    let t = lentWith (a .counts) (a .forms .now) (a .lines .now) (a .steps .now) in
+    let t = lentWith (a .counts) (a .forms .now) (a .policy .now) (a .steps .now) in
     let checks = c .before .before .before .check-tables in
     let told = c .before .enum-told2 .given in
     let all = ends-refused t (length (a .out .now)) (checks .result) (told .0 .0) (checks .ensures) (told .1) in
@@ -33,7 +33,7 @@ returns c =
 returns-2 : tie.Need-returns-2
 returns-2 c =
     let a = c .before .before .before .before .before .before .before .before .before .before .before .before .before .before .before .before .before .before .before .before .args in
-    let t = lentWith (a .counts) (a .forms .now) (a .lines .now) (a .steps .now) in
+    let t = lentWith (a .counts) (a .forms .now) (a .policy .now) (a .steps .now) in
     let len = length (a .out .now) in
     let zero = c .before .before .before .before .before .before .before .before .before .before .before .before .before .before .zero-all in
     let checks = c .before .before .before .before .before .before .before .before .before .before .before .check-tables in
@@ -46,7 +46,7 @@ returns-2 c =
 returns-3 : tie.Need-returns-3
 returns-3 c =
     let a = c .before .before .before .before .before .before .before .before .before .before .before .before .before .before .before .before .args in
-    let t = lentWith (a .counts) (a .forms .now) (a .lines .now) (a .steps .now) in
+    let t = lentWith (a .counts) (a .forms .now) (a .policy .now) (a .steps .now) in
     let len = length (a .out .now) in
     let text = requestText (requestOf t) in
     let zero = c .before .before .before .before .before .before .before .before .before .before .zero-all in

@@ -4,7 +4,7 @@ use Prim.Native.Nat.{_+_, _-_, _≤_, _<_}
 use mathlib.Core.Path.{ap, _∙_}
 use lib.ListN.{length}
 use Rattle.scope.specs.Limits.{mostPolicyLines}
-use Rattle.scope.specs.Call.Tables.{lineEntry}
+use Rattle.scope.specs.Call.Tables.{policyEntry}
 use Rattle.lines.specs.Values.{Behind}
 use Rattle.reader.specs.Sections.{classedItem}
 use Rattle.reader.specs.Answers.{refusalIs, numberRefusal}
@@ -16,7 +16,7 @@ use Rattle.reader.proofs.policy_lines.read_clauses.Tie as tie
 
 abbrev Inv-loop : tie.InvT-loop
 Inv-loop text formulas classes clauses policy₀ rest₀ i₀ key policy rest i =
-    Turns lineEntry (classedItem classes formulas) clauses text (length policy₀) policy rest i
+    Turns policyEntry (classedItem classes formulas) clauses text (length policy₀) policy rest i
 
 abbrev μ-loop : tie.MeasureT-loop
 μ-loop text formulas classes clauses policy₀ rest₀ i₀ key policy rest i = clauses - i
@@ -59,7 +59,7 @@ room c =
 
 loop-holds : tie.Need-loop-holds Inv-loop μ-loop
 loop-holds c =
-    turns-begin lineEntry (classedItem (c .before .before .before .args .classes .now) (c .before .before .before .args .formulas))
+    turns-begin policyEntry (classedItem (c .before .before .before .args .classes .now) (c .before .before .before .args .formulas))
     (c .before .before .before .args .clauses) (c .before .before .before .args .text .now)
     (c .before .before .before .args .policy .now) (c .before .before .before .pre .2)
 
@@ -138,7 +138,7 @@ same-length-2 c = c .before .loop .inv .long
 
 returns-2 : tie.Need-returns-2 Inv-loop μ-loop
 returns-2 c =
-    turns-end lineEntry (classedItem (c .before .before .before .before .before .args .classes .now)
+    turns-end policyEntry (classedItem (c .before .before .before .before .before .args .classes .now)
     (c .before .before .before .before .before .args .formulas)) (c .before .before .before .before .before .args .clauses)
     (c .before .before .before .before .before .args .text .now)
     (c .before .loop .inv) (c .loop-test .left)

@@ -5,7 +5,7 @@ use lib.ListN.{length}
 use Rattle.scope.specs.File.Bytes.{bytes}
 use Rattle.scope.specs.File.Number.{number}
 use Rattle.scope.specs.Limits.{mostPolicyLines, clausesAt, goalAt}
-use Rattle.scope.specs.Call.Tables.{unpack, formEntry, lineEntry}
+use Rattle.scope.specs.Call.Tables.{unpack, formEntry, policyEntry}
 use Rattle.lines.specs.Parts.{valueOf}
 use Rattle.reader.specs.Sections.{policyPart}
 use Rattle.reader.specs.Answers.{refusalIs, numberRefusal, sectionRefused}
@@ -32,10 +32,10 @@ clauses c =
       tabled = c .classes-of .ensures;
     }
 
-abbrev lines : (c : tie.After-got) → Section-kept lineEntry
+abbrev policy : (c : tie.After-got) → Section-kept policyEntry
     (length (c .before .before .before .before .before .before .before .before .rest-of .result .now))
     (linesRead (clauses (c .before .before .before .before .before .before .before)))
-lines c =
+policy c =
     record {
       at = c .got .given .0 .0;
       is = sym (c .before .before .before .before .read-clauses .ensures .0) ∙ c .got .given .1;
@@ -116,10 +116,10 @@ returns-2 c =
     (c .section-refused .result) (c .section-refused .ensures ∙ ap sectionRefused (c .before .enum-told2 .given .1))
 
 sub-third : tie.Need-sub-third
-sub-third c = lines-place (clauses (c .before .before .before .before .before .before .before .before)) (lines (c .before))
+sub-third c = lines-place (clauses (c .before .before .before .before .before .before .before .before)) (policy (c .before))
 
 part-third-start : tie.Need-part-third-start
-part-third-start c = lines-place (clauses (c .before .before .before .before .before .before .before .before)) (lines (c .before))
+part-third-start c = lines-place (clauses (c .before .before .before .before .before .before .before .before)) (policy (c .before))
 
 part-third-end : tie.Need-part-third-end
 part-third-end c = search needs
@@ -153,7 +153,7 @@ returns-3 c =
     (c .before .before .before .before .before .before .before .before .before .before .before .before .before .before .before .before .before .before .before .before .before .before .before .before .before .args .forms .now)) t)
     (refusalIs k place)
     (goal-stopped (clauses (c .before .before .before .before .before .before .before .before .before .before .before .before .before .before .before))
-    (lines (c .before .before .before .before .before .before .before .before)) k
+    (policy (c .before .before .before .before .before .before .before .before)) k
     (sym (c .before .before .before .before .goal-line .ensures) ∙ c .before .before .enum-told3 .given .1))
     (c .number-refused2 .result) (c .number-refused2 .ensures ∙ (λ j. refusalIs (numberRefusal (c .before .before .enum-told3 .given .1 j)) (c .before .goal-at .ensures j)))
 
@@ -163,7 +163,7 @@ rest-of-requires-2 c κs = search needs
 sub-taken : tie.Need-sub-taken
 sub-taken c =
     goal-inside (clauses (c .before .before .before .before .before .before .before .before .before .before .before .before .before .before .before))
-    (lines (c .before .before .before .before .before .before .before .before)) (c .before .before .last .given .0 .0) (c .rest-of2 .result .now)
+    (policy (c .before .before .before .before .before .before .before .before)) (c .before .before .last .given .0 .0) (c .rest-of2 .result .now)
     (c .rest-of2 .ensures)
     (sym (c .before .before .before .before .goal-line .ensures) ∙ c .before .before .last .given .1)
 
@@ -174,7 +174,7 @@ returns-4 : tie.Need-returns-4
 returns-4 c =
     policy-joined (clauses
     (c .before .before .before .before .before .before .before .before .before .before .before .before .before .before .before))
-    (lines (c .before .before .before .before .before .before .before .before)) (c .before .before .last .given .0 .0) (c .rest-of2 .result .now)
+    (policy (c .before .before .before .before .before .before .before .before)) (c .before .before .last .given .0 .0) (c .rest-of2 .result .now)
     (c .rest-of2 .ensures)
     (sym (c .before .before .before .before .goal-line .ensures) ∙ c .before .before .last .given .1)
 

@@ -3,21 +3,21 @@ use borrow.Author.Needs.{needs}
 use native.Mathlib.Omega.{arith}
 use Prim.Native.Nat.{_-_}
 use Rattle.scope.specs.File.Text.{clauseLine}
-use Rattle.scope.specs.Call.Tables.{lineEntry}
+use Rattle.scope.specs.Call.Tables.{policyEntry}
 use Rattle.classes.specs.Rows.{number-at}
 use Rattle.writer.specs.Sections.{LinesPut, lines-none, lines-more, lines-all}
 use Rattle.writer.proofs.sections.put_lines.Statement.{statement}
 use Rattle.writer.proofs.sections.put_lines.Tie as tie
 
 abbrev Inv-loop : tie.InvT-loop
-Inv-loop out₀ at count lines end₀ i₀ out end i = LinesPut clauseLine lineEntry 22 count lines out₀ at i out end
+Inv-loop out₀ at count policy end₀ i₀ out end i = LinesPut clauseLine policyEntry 22 count policy out₀ at i out end
 
 abbrev μ-loop : tie.MeasureT-loop
-μ-loop out₀ at count lines end₀ i₀ out end i = count - i
+μ-loop out₀ at count policy end₀ i₀ out end i = count - i
 
 loop-again : tie.Need-loop-again Inv-loop μ-loop
 loop-again c =
-    let t = c .before .before .before .before .before .before .before .before .before .args .lines .now in
+    let t = c .before .before .before .before .before .before .before .before .before .args .policy .now in
     let l = c .before .before .before .before .before .before .loop in
     let p = c .before .before .put-clause in
     lines-more (l .inv) (c .before .before .before .before .before .loop-test .taken) (number-at t 1 (l .i) 0 (l .i) (omega arith) (omega arith)) (rw (c .before .before .before .before .entry-at .ensures) at (p .ensures)) (p .kept .0)

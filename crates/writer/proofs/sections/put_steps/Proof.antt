@@ -3,7 +3,7 @@ use borrow.Author.Needs.{needs}
 use Prim.Native.Nat.{_-_}
 use Rattle.scope.specs.File.Text.{stepLine}
 use Rattle.scope.specs.Call.Tables.{stepEntry}
-use Rattle.tables.specs.Sections.{step-row}
+use Rattle.checks.specs.Sections.{step-row}
 use Rattle.writer.specs.Sections.{LinesPut, lines-none, lines-more, lines-all}
 use Rattle.writer.proofs.sections.put_steps.Statement.{statement}
 use Rattle.writer.proofs.sections.put_steps.Tie as tie

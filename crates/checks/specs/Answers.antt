@@ -1,0 +1,44 @@
+-- What is asked of each part of lent tables, in the order of the text.
+use Prim.Native.Nat.{ℕ, suc}
+use mathlib.Core.List.{List, [], _∷_}
+use lib.ListN.{length}
+use Rattle.refusals.specs.Rows.{classRefusal}
+use Rattle.scope.specs.File.Request.{Row}
+use Rattle.scope.specs.Call.Answer.{Answer, answer}
+use Rattle.scope.specs.Limits.{principalsAt, atomsAt, formulasAt, formAt, clauseAt, goalAt, stepsAt, stepAt}
+use Rattle.scope.specs.File.Refusals.{demand, principalsRefusal, atomsRefusal, formulasRefusal, stepsRefusal, stepRefusal, rowRefusal}
+use Rattle.scope.specs.File.Kinds.{formKinds}
+use Rattle.scope.specs.Call.Checked.{eachOf}
+use Rattle.scope.specs.Call.Tables.{hasRoom}
+use Rattle.classes.specs.Class.{goalIn, policyIn}
+
+unfoldable pub roomAnswers : ℕ → ℕ → ℕ → List Answer
+roomAnswers forms policy steps = answer (demand (hasRoom forms policy steps) 13 0) 0 ∷ []
+
+unfoldable pub countAnswers : ℕ → ℕ → ℕ → List Answer
+countAnswers principals atoms formulas =
+    answer (principalsRefusal principals) principalsAt ∷
+    answer (atomsRefusal atoms) atomsAt ∷
+    answer (formulasRefusal formulas) formulasAt ∷
+    []
+
+-- The answer about a row that is formula number i.
+abbrev pub formAnswer : ℕ → ℕ → ℕ → Row → Answer
+formAnswer principals atoms i r = answer (rowRefusal formKinds principals atoms i r) (formAt i)
+
+unfoldable pub formAnswers : ℕ → ℕ → List Row → List Answer
+formAnswers principals atoms rows = eachOf (λ before r. formAnswer principals atoms (length before) r) [] rows
+
+unfoldable pub policyAnswers : List ℕ → ℕ → List ℕ → List Answer
+policyAnswers classes formulas fs =
+    eachOf (λ before f. answer (classRefusal policyIn classes formulas f) (clauseAt formulas (length before))) [] fs
+
+unfoldable pub goalAnswers : List ℕ → ℕ → ℕ → ℕ → ℕ → List Answer
+goalAnswers classes formulas policy goal steps =
+    answer (classRefusal goalIn classes formulas goal) (goalAt formulas policy) ∷
+    answer (stepsRefusal steps) (stepsAt formulas policy) ∷
+    []
+
+unfoldable pub stepAnswers : ℕ → ℕ → List Row → List Answer
+stepAnswers formulas policy rows =
+    eachOf (λ before r. answer (stepRefusal r) (stepAt formulas policy (suc (length before)))) [] rows

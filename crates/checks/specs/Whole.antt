@@ -1,0 +1,185 @@
+-- The checks of document 01 over lent tables, part by part: room, counts and formulas, policy lines, goal and steps, and what is past the counts.
+use Prim.Native.Nat.{ℕ, _≤_, _<_}
+use native.Mathlib.Omega.{arith}
+use mathlib.Core.Path.{_≡_, refl, ap, sym, _∙_}
+use mathlib.Core.List.{List, [], _∷_, _++_, append-assoc, append-nil}
+use mathlib.Core.Bool.{Bool, true, false}
+use borrow.Author.Tests.{ltb-true, leb-true}
+use lib.ListN.{length, getD}
+use lib.Dec.{leb, ltb}
+use Rattle.scope.specs.Logic.Form.{both}
+use Rattle.scope.specs.File.Request.{goalClass, policyClass}
+use Rattle.scope.specs.Call.Answer.{Answer, answer}
+use Rattle.scope.specs.Limits.{clausesAt, clauseAt, goalAt, stepsAt, mostFormulas}
+use Rattle.scope.specs.File.Refusals.{demand, countRefusal, principalsRefusal, atomsRefusal, formulasRefusal, clausesRefusal, clauseRefusal, goalRefusal, stepsRefusal}
+use Rattle.scope.specs.Call.Checked.{eachOf, firstMet, pastZero, checked}
+use Rattle.scope.specs.Call.Tables.{Lent, hasRoom, unpack, formEntry, policyEntry, stepEntry}
+use Rattle.classes.specs.Class.{goalIn, policyIn, classTable}
+use Rattle.classes.specs.Rows.{unpack-length}
+use Rattle.classes.specs.Laws.{goal-at, policy-at}
+use Rattle.common.specs.declared.Answer.{Answer as Returned}
+use Rattle.checks.specs.Met.{answerIn, checkedOf, metIn}
+use Rattle.checks.specs.MetLaws.{first-answer, met-stop, met-go, met-front, met-back, met-one, fine-none}
+use Rattle.checks.specs.declared.Checked.{Checked}
+use Rattle.checks.specs.declared.Checked.the-variants.{Fine, Refused}
+use Rattle.refusals.specs.Rows.{classRefusal}
+use Rattle.checks.specs.Answers.{roomAnswers, countAnswers, formAnswers, policyAnswers, goalAnswers, stepAnswers}
+
+-- What is asked first: the room.
+abbrev pub roomPart : Lent → List Answer
+roomPart t = roomAnswers (length (t .formTable)) (length (t .policyTable)) (length (t .stepTable))
+
+-- The counts of principals, atoms and formulas, and the formulas.
+abbrev pub formPart : Lent → List Answer
+formPart t = countAnswers (t .principals) (t .atoms) (t .formulas) ++ formAnswers (t .principals) (t .atoms) (unpack formEntry (t .formulas) (t .formTable))
+
+-- The count of policy lines, and those lines.
+abbrev pub linePart : Lent → List ℕ → List Answer
+linePart t classes =
+    (answer (clausesRefusal (t .policy)) (clausesAt (t .formulas)) ∷ []) ++ policyAnswers classes (t .formulas) (unpack policyEntry (t .policy) (t .policyTable))
+
+-- The goal, the count of steps, and the steps.
+abbrev pub stepPart : Lent → List ℕ → List Answer
+stepPart t classes =
+    goalAnswers classes (t .formulas) (t .policy) (t .goal) (t .steps) ++ stepAnswers (t .formulas) (t .policy) (unpack stepEntry (t .steps) (t .stepTable))
+
+-- What is past the counts.
+abbrev pub pastPart : Lent → List Answer
+pastPart t = answer (demand (pastZero t) 3 0) 0 ∷ []
+
+-- What document 01 asks after the formulas, where n formulas, l policy lines and s steps are counted.
+laterAt : Lent → ℕ → ℕ → ℕ → List Answer
+laterAt t n l s =
+    let forms = unpack formEntry (t .formulas) (t .formTable) in
+    (answer (clausesRefusal l) (clausesAt n) ∷ []) ++
+    (eachOf (λ before f. answer (clauseRefusal forms f) (clauseAt n (length before))) [] (unpack policyEntry (t .policy) (t .policyTable)) ++
+    ((answer (goalRefusal forms (t .goal)) (goalAt n l) ∷ answer (stepsRefusal s) (stepsAt n l) ∷ []) ++
+    (stepAnswers n l (unpack stepEntry (t .steps) (t .stepTable)) ++ pastPart t)))
+
+pub later : Lent → List Answer
+later t = laterAt t (t .formulas) (t .policy) (t .steps)
+
+wholeAt : Lent → ℕ → ℕ → ℕ → List Answer
+wholeAt t n l s =
+    roomPart t ++
+    ((countAnswers (t .principals) (t .atoms) n ++ formAnswers (t .principals) (t .atoms) (unpack formEntry (t .formulas) (t .formTable))) ++
+    laterAt t n l s)
+
+regroup : (r a f c p g s z : List Answer) →
+    r ++ ((a ++ (f ++ (c ++ (p ++ (g ++ (s ++ [])))))) ++ (z ++ [])) ≡ r ++ ((a ++ f) ++ (c ++ (p ++ (g ++ (s ++ z)))))
+regroup r a f c p g s z = simp (append-assoc, append-nil)
+
+as-listed : (t : Lent) →
+    checked t ≡
+    firstMet
+    (wholeAt t (length (unpack formEntry (t .formulas) (t .formTable))) (length (unpack policyEntry (t .policy) (t .policyTable))) (length (unpack stepEntry (t .steps) (t .stepTable))))
+unfolding checked roomAnswers countAnswers formAnswers stepAnswers wholeAt laterAt
+as-listed t =
+    let forms = unpack formEntry (t .formulas) (t .formTable) in
+    let n = length forms in
+    let l = length (unpack policyEntry (t .policy) (t .policyTable)) in
+    ap firstMet
+    (regroup (roomPart t) (countAnswers (t .principals) (t .atoms) n) (formAnswers (t .principals) (t .atoms) forms)
+    (answer (clausesRefusal l) (clausesAt n) ∷ [])
+    (eachOf (λ before f. answer (clauseRefusal forms f) (clauseAt n (length before))) [] (unpack policyEntry (t .policy) (t .policyTable)))
+    (answer (goalRefusal forms (t .goal)) (goalAt n l) ∷ answer (stepsRefusal (length (unpack stepEntry (t .steps) (t .stepTable)))) (stepsAt n l) ∷ [])
+    (stepAnswers n l (unpack stepEntry (t .steps) (t .stepTable)))
+    (pastPart t))
+
+as-counted : (t : Lent) → checked t ≡ firstMet (wholeAt t (t .formulas) (t .policy) (t .steps))
+as-counted t =
+    as-listed t ∙
+    ap (λ (n : ℕ). firstMet (wholeAt t n (length (unpack policyEntry (t .policy) (t .policyTable))) (length (unpack stepEntry (t .steps) (t .stepTable)))))
+    (unpack-length formEntry (t .formulas) (t .formTable)) ∙
+    ap (λ (l : ℕ). firstMet (wholeAt t (t .formulas) l (length (unpack stepEntry (t .steps) (t .stepTable)))))
+    (unpack-length policyEntry (t .policy) (t .policyTable)) ∙
+    ap (λ (s : ℕ). firstMet (wholeAt t (t .formulas) (t .policy) s)) (unpack-length stepEntry (t .steps) (t .stepTable))
+
+pub checked-parts : (t : Lent) → checkedOf (checked t) ≡ metIn (roomPart t ++ (formPart t ++ later t))
+unfolding metIn roomAnswers wholeAt later laterAt
+checked-parts t = ap checkedOf (as-counted t)
+
+-- The code's answer says all that document 01's does.
+pub checked-answer : (t : Lent) → answerIn (checkedOf (checked t)) ≡ checked t
+unfolding metIn
+checked-answer t = ap (λ (a : Answer). answerIn (checkedOf a)) (as-counted t) ∙ first-answer (wholeAt t (t .formulas) (t .policy) (t .steps)) ∙ sym (as-counted t)
+
+-- The class of a formula below the count, from its class byte.
+class-go : (b : Bool) (test : ℕ → Bool) (classes : List ℕ) (n f : ℕ) (class : Bool) → ltb f n ≡ b →
+    (f < n → test (getD classes f 0) ≡ class) → demand b 3 (demand class 5 0) ≡ demand b 3 (demand (test (getD classes f 0)) 5 0)
+unfolding demand
+class-go true test classes n f class e h = ap (λ (c : Bool). demand c 5 0) (sym (h (ltb-true f n e)))
+class-go false test classes n f class e h = refl
+
+line-refusal : (t : List ℕ) (n f : ℕ) → n ≤ mostFormulas →
+    clauseRefusal (unpack formEntry n t) f ≡ classRefusal policyIn (classTable t n) n f
+unfolding clauseRefusal classRefusal
+line-refusal t n f h =
+    rw (unpack-length formEntry n t)
+    (class-go (ltb f n) policyIn (classTable t n) n f (policyClass (unpack formEntry n t) f) refl (policy-at t n f h))
+
+goal-refusal : (t : List ℕ) (n f : ℕ) → n ≤ mostFormulas →
+    goalRefusal (unpack formEntry n t) f ≡ classRefusal goalIn (classTable t n) n f
+unfolding goalRefusal classRefusal
+goal-refusal t n f h =
+    rw (unpack-length formEntry n t)
+    (class-go (ltb f n) goalIn (classTable t n) n f (goalClass (unpack formEntry n t) f) refl (goal-at t n f h))
+
+pub later-parts : (t : Lent) → t .formulas ≤ mostFormulas →
+    later t ≡ linePart t (classTable (t .formTable) (t .formulas)) ++ (stepPart t (classTable (t .formTable) (t .formulas)) ++ pastPart t)
+unfolding later laterAt policyAnswers goalAnswers
+later-parts t h =
+    let n = t .formulas in
+    let forms = unpack formEntry n (t .formTable) in
+    let classes = classTable (t .formTable) n in
+    ap (λ (line : ℕ → ℕ). asked t line (goalRefusal forms (t .goal))) (λ i f. line-refusal (t .formTable) n f h i) ∙
+    ap (λ (goal : ℕ). asked t (classRefusal policyIn classes n) goal) (goal-refusal (t .formTable) n (t .goal) h)
+  where
+    asked : Lent → (ℕ → ℕ) → ℕ → List Answer
+    asked t line goal =
+        (answer (clausesRefusal (t .policy)) (clausesAt (t .formulas)) ∷ []) ++
+        (eachOf (λ before f. answer (line f) (clauseAt (t .formulas) (length before))) [] (unpack policyEntry (t .policy) (t .policyTable)) ++
+        ((answer goal (goalAt (t .formulas) (t .policy)) ∷ answer (stepsRefusal (t .steps)) (stepsAt (t .formulas) (t .policy)) ∷ []) ++
+        (stepAnswers (t .formulas) (t .policy) (unpack stepEntry (t .steps) (t .stepTable)) ++ pastPart t)))
+
+count-go : (b c : Bool) → demand (both b c) 3 0 ≡ 0 → c ≡ true
+unfolding demand both
+count-go true true e = refl
+count-go true false e = let z : _≡_ {A = ℕ} 0 1 = omega arith in absurd (omega arith)
+count-go false c e = absurd (omega arith)
+
+pub formulas-within : (t : Lent) → metIn (formPart t) ≡ Fine → t .formulas ≤ mostFormulas
+unfolding countAnswers countRefusal
+formulas-within t e =
+    let counts = met-front (countAnswers (t .principals) (t .atoms) (t .formulas)) (formAnswers (t .principals) (t .atoms) (unpack formEntry (t .formulas) (t .formTable))) e in
+    let fine : metIn (answer (formulasRefusal (t .formulas)) 4 ∷ []) ≡ Fine =
+    met-back (answer (principalsRefusal (t .principals)) 2 ∷ answer (atomsRefusal (t .atoms)) 3 ∷ []) (answer (formulasRefusal (t .formulas)) 4 ∷ []) counts in
+    let none = fine-none (formulasRefusal (t .formulas)) 4 (sym (met-one (answer (formulasRefusal (t .formulas)) 4)) ∙ fine) in
+    leb-true (t .formulas) mostFormulas (count-go (leb 1 (t .formulas)) (leb (t .formulas) mostFormulas) none)
+
+-- A part of one answer.
+pub room-met : (t : Lent) (g : Checked) →
+    g ≡ checkedOf (answer (demand (hasRoom (length (t .formTable)) (length (t .policyTable)) (length (t .stepTable))) 13 0) 0) → g ≡ metIn (roomPart t)
+unfolding roomAnswers
+room-met t g e = e ∙ sym (met-one (answer (demand (hasRoom (length (t .formTable)) (length (t .policyTable)) (length (t .stepTable))) 13 0) 0))
+
+pub past-met : (t : Lent) (g : Checked) → g ≡ checkedOf (answer (demand (pastZero t) 3 0) 0) → g ≡ metIn (pastPart t)
+past-met t g e = e ∙ sym (met-one (answer (demand (pastZero t) 3 0) 0))
+
+-- Part by part: a part's refusal is the answer, where the parts before it are fine.
+module _ (t : Lent) (room : Checked) (roomed : room ≡ metIn (roomPart t)) where
+  pub room-stop : (r : Returned) → room ≡ Refused r → room ≡ checkedOf (checked t)
+  room-stop r e = met-stop (roomPart t) (formPart t ++ later t) room r roomed e ∙ sym (checked-parts t)
+
+  module _ (fine : room ≡ Fine) (forms : Checked) (formed : forms ≡ metIn (formPart t)) where
+    pub forms-stop : (r : Returned) → forms ≡ Refused r → forms ≡ checkedOf (checked t)
+    forms-stop r e =
+        met-stop (formPart t) (later t) forms r formed e ∙ met-go (roomPart t) (formPart t ++ later t) room roomed fine ∙ sym (checked-parts t)
+
+    pub after-forms : forms ≡ Fine →
+        metIn (linePart t (classTable (t .formTable) (t .formulas)) ++ (stepPart t (classTable (t .formTable) (t .formulas)) ++ pastPart t)) ≡ checkedOf (checked t)
+    after-forms e =
+        ap metIn (sym (later-parts t (formulas-within t (sym formed ∙ e)))) ∙
+        met-go (formPart t) (later t) forms formed e ∙
+        met-go (roomPart t) (formPart t ++ later t) room roomed fine ∙
+        sym (checked-parts t)
