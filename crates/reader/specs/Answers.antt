@@ -23,12 +23,8 @@ use Rattle.reader.specs.declared.StepLine.{StepLine}
 use Rattle.reader.specs.declared.StepLine.the-variants as StepLine
 use Rattle.reader.specs.declared.Section.{Section}
 use Rattle.reader.specs.declared.Section.the-variants as Section
-use Rattle.reader.specs.declared.Head.{Head}
-use Rattle.reader.specs.declared.Head.the-variants as Head
-use Rattle.reader.specs.declared.Policy.{Policy}
-use Rattle.reader.specs.declared.Policy.the-variants as Policy
-use Rattle.reader.specs.declared.Steps.{Steps}
-use Rattle.reader.specs.declared.Steps.the-variants as Steps
+use Rattle.reader.specs.declared.Part.{Part}
+use Rattle.reader.specs.declared.Part.the-variants as Part
 
 abbrev pub refusalIs : ℕ → ℕ → Returned
 refusalIs k place = answerOf (answer k place)
@@ -86,21 +82,39 @@ unfoldable pub sectionOf : {A : Type 0} → ℕ → Read A → Section
 sectionOf n (ok a rest) = Section.Read (n - length rest)
 sectionOf n (bad a) = Section.Refused (answerOf a)
 
-unfoldable pub headOf : ℕ → Read Counted → Head
-headOf n (ok h rest) = Head.Read (h .principals) (h .atoms) (h .formulas) (n - length rest)
-headOf n (bad a) = Head.Refused (answerOf a)
+-- The counts up to the end of a part, from those up to its beginning.
+abbrev pub headCounts : Counted → Counts
+headCounts h = record { principals = h .principals; atoms = h .atoms; formulas = h .formulas; policy = 0; goal = 0; steps = 0 }
 
-unfoldable pub formulasOf : ℕ → Read Formulas → Head
-formulasOf n (ok f rest) = Head.Read (f .principals) (f .atoms) (length (f .forms)) (n - length rest)
-formulasOf n (bad a) = Head.Refused (answerOf a)
+abbrev pub formulasCounts : Formulas → Counts
+formulasCounts f = record { principals = f .principals; atoms = f .atoms; formulas = length (f .forms); policy = 0; goal = 0; steps = 0 }
 
-unfoldable pub policySection : ℕ → Read PolicyRead → Policy
-policySection n (ok p rest) = Policy.Read (length (p .policy)) (p .goal) (n - length rest)
-policySection n (bad a) = Policy.Refused (answerOf a)
+abbrev pub policyCounts : Counts → PolicyRead → Counts
+policyCounts c p =
+    record {
+      principals = c .principals;
+      atoms = c .atoms;
+      formulas = c .formulas;
+      policy = length (p .policy);
+      goal = p .goal;
+      steps = 0;
+    }
 
-unfoldable pub stepSection : ℕ → Read (List Row) → Steps
-stepSection n (ok rows rest) = Steps.Read (length rows) (n - length rest)
-stepSection n (bad a) = Steps.Refused (answerOf a)
+abbrev pub stepsCounts : Counts → List Row → Counts
+stepsCounts c rows =
+    record {
+      principals = c .principals;
+      atoms = c .atoms;
+      formulas = c .formulas;
+      policy = c .policy;
+      goal = c .goal;
+      steps = length rows;
+    }
+
+-- Of a part, by its counts.
+unfoldable pub partOf : {A : Type 0} → (A → Counts) → ℕ → Read A → Part
+partOf counts n (ok a rest) = Part.Read (counts a) (n - length rest)
+partOf counts n (bad a) = Part.Refused (answerOf a)
 
 -- The refusal in an answer; none where the answer is no refusal.
 abbrev pub numberRefusal : NumberLine → ℕ
@@ -119,19 +133,11 @@ abbrev pub sectionRefused : Section → Returned
 sectionRefused (Section.Read at) = refusalIs 0 0
 sectionRefused (Section.Refused r) = r
 
-abbrev pub headRefused : Head → Returned
-headRefused (Head.Read p a f at) = refusalIs 0 0
-headRefused (Head.Refused r) = r
-
-abbrev pub policyRefused : Policy → Returned
-policyRefused (Policy.Read n g at) = refusalIs 0 0
-policyRefused (Policy.Refused r) = r
-
-abbrev pub stepsRefused : Steps → Returned
-stepsRefused (Steps.Read n at) = refusalIs 0 0
-stepsRefused (Steps.Refused r) = r
+abbrev pub partRefused : Part → Returned
+partRefused (Part.Read c at) = refusalIs 0 0
+partRefused (Part.Refused r) = r
 
 -- The count of formulas in an answer.
-abbrev pub formulaCount : Head → ℕ
-formulaCount (Head.Read p a f at) = f
-formulaCount (Head.Refused r) = 0
+abbrev pub formulaCount : Part → ℕ
+formulaCount (Part.Read c at) = c .formulas
+formulaCount (Part.Refused r) = 0

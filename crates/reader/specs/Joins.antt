@@ -22,21 +22,20 @@ use Rattle.classes.specs.Class.{goalIn, policyIn, classTable}
 use Rattle.classes.specs.Rows.{unpack-length}
 use Rattle.classes.specs.Laws.{goal-at, policy-at}
 use Rattle.lines.specs.Parts.{valueOf, restOf}
+use Rattle.common.specs.declared.Counts.{Counts}
 use Rattle.common.specs.declared.Answer.{Answer as Returned}
 use Rattle.refusals.specs.Rows.{classRefusal}
 use Rattle.reader.specs.Sections.{Counted, Formulas, PolicyRead, headPart, formulasPart, policyPart, stepsPart, classedItem}
-use Rattle.reader.specs.Answers.{numberLineOf, sectionOf, headOf, formulasOf, policySection, stepSection}
+use Rattle.reader.specs.Answers.{numberLineOf, sectionOf, headCounts, formulasCounts, policyCounts, stepsCounts, partOf}
 use Rattle.reader.specs.Lines.{number-ok, number-bad}
 use Rattle.reader.specs.Many.{Ends, line-ends, many-ends, many-length, tail-length}
 use Rattle.reader.specs.Turns.{rest-short}
 use Rattle.reader.specs.Whole.{head-ends}
-use Rattle.reader.specs.Got.{partFrom, part-is, Section-got, section-got, section-lost, Section-kept, Head-got, head-got, head-lost, same-things, formulas-read, policy-read, steps-read}
+use Rattle.reader.specs.Got.{partFrom, part-is, Section-got, section-got, section-lost, Section-kept, Part-got, part-got, part-lost, same-things, part-read}
 use Rattle.reader.specs.declared.NumberLine.{NumberLine}
 use Rattle.reader.specs.declared.NumberLine.the-variants as NumberLine
 use Rattle.reader.specs.declared.Section.the-variants as Section
-use Rattle.reader.specs.declared.Head.the-variants as Head
-use Rattle.reader.specs.declared.Policy.the-variants as Policy
-use Rattle.reader.specs.declared.Steps.the-variants as Steps
+use Rattle.reader.specs.declared.Part.the-variants as Part
 
 many-form-ends : (p a f : ℕ) → Ends (many (formItem p a) f [])
 many-form-ends p a f = many-ends (formItem p a) f [] (λ b. line-ends _ _ _)
@@ -65,36 +64,35 @@ module _ (s : List ℕ) where
   unfolding formulasPart _>>=_ andThen
   formulas-whole h t forms rest e f = rw e (rw f refl)
 
-  pub formulas-stopped : (x : Returned) → headOf (length s) (headPart s) ≡ Head.Refused x → formulasPart s ≡ bad (answerIs x)
-  formulas-stopped x e = formulas-at-head (x .refusal) (x .place) (head-lost (length s) (headPart s) x e)
+  pub formulas-stopped : (x : Returned) → partOf headCounts (length s) (headPart s) ≡ Part.Refused x → formulasPart s ≡ bad (answerIs x)
+  formulas-stopped x e = formulas-at-head (x .refusal) (x .place) (part-lost headCounts (length s) (headPart s) x e)
 
 -- The first four lines as the code has them.
 pub record Head-kept (s : List ℕ) : Type 0 where
-  pub principals : ℕ
-  pub atoms : ℕ
-  pub count : ℕ
+  pub counts : Counts
   pub at : ℕ
-  pub is : headOf (length s) (headPart s) ≡ Head.Read principals atoms count at
+  pub is : partOf headCounts (length s) (headPart s) ≡ Part.Read counts at
 
 abbrev pub behindHead : {s : List ℕ} → Head-kept s → List ℕ
 behindHead {s} k = partFrom (k .at) s
 
+-- The `form=` lines of a text, by the counts before them.
+abbrev pub formsIn : Counts → List ℕ → Read (List Row)
+formsIn c s = many (formItem (c .principals) (c .atoms)) (c .formulas) [] s
+
 abbrev pub formsRead : {s : List ℕ} → Head-kept s → Read (List Row)
-formsRead k = many (formItem (k .principals) (k .atoms)) (k .count) [] (behindHead k)
+formsRead k = formsIn (k .counts) (behindHead k)
 
 module _ {s : List ℕ} (k : Head-kept s) where
   -- What the code has of them is what the definition reads.
-  headRead : Head-got (length s) (headPart s) (k .principals) (k .atoms) (k .count) (k .at)
-  headRead = head-got (length s) (headPart s) (k .principals) (k .atoms) (k .count) (k .at) (k .is)
-
-  abbrev counts : Counted
-  counts = record { principals = k .principals; atoms = k .atoms; formulas = k .count }
+  headRead : Part-got headCounts (length s) (headPart s) (k .counts) (k .at)
+  headRead = part-got headCounts (length s) (headPart s) (k .counts) (k .at) (k .is)
 
   second : behindHead k ≡ headRead .rest
-  second = part-is headPart head-ends s counts (headRead .rest) (k .at) (headRead .is) (headRead .place)
+  second = part-is headPart head-ends s (headRead .thing) (headRead .rest) (k .at) (headRead .is) (headRead .place)
 
-  same-forms : formsRead k ≡ many (formItem (k .principals) (k .atoms)) (k .count) [] (headRead .rest)
-  same-forms = ap (many (formItem (k .principals) (k .atoms)) (k .count) []) second
+  same-forms : formsRead k ≡ formsIn (headCounts (headRead .thing)) (headRead .rest)
+  same-forms = λ i. formsIn (headRead .counted i) (second i)
 
   pub head-place : k .at ≤ length s
   head-place = omega (arith, headRead .place)
@@ -102,7 +100,7 @@ module _ {s : List ℕ} (k : Head-kept s) where
   pub forms-stopped : (x : Returned) → sectionOf (length (behindHead k)) (formsRead k) ≡ Section.Refused x → formulasPart s ≡ bad
       (answerIs x)
   forms-stopped x m =
-      formulas-at-forms s counts (headRead .rest) (x .refusal) (x .place) (headRead .is)
+      formulas-at-forms s (headRead .thing) (headRead .rest) (x .refusal) (x .place) (headRead .is)
       (sym same-forms ∙ section-lost (length (behindHead k)) (formsRead k) x m)
 
   module _ (m : Section-kept formEntry (length (behindHead k)) (formsRead k)) where
@@ -111,10 +109,10 @@ module _ {s : List ℕ} (k : Head-kept s) where
 
     rest-inside : length (formsGot .rest) ≤ length (behindHead k)
     rest-inside = tail-length (formsGot .rest) (behindHead k)
-        (many-form-ends (k .principals) (k .atoms) (k .count) .ends (behindHead k) (formsGot .things) (formsGot .rest) (formsGot .is))
+        (many-form-ends (k .counts .principals) (k .counts .atoms) (k .counts .formulas) .ends (behindHead k) (formsGot .things) (formsGot .rest) (formsGot .is))
 
     head-inside : length (headRead .rest) ≤ length s
-    head-inside = tail-length (headRead .rest) s (head-ends .ends s counts (headRead .rest) (headRead .is))
+    head-inside = tail-length (headRead .rest) s (head-ends .ends s (headRead .thing) (headRead .rest) (headRead .is))
 
     forms-taken : k .at + m .at ≡ length s - length (formsGot .rest)
     forms-taken = omega (arith, rest-inside, head-inside, headRead .place, formsGot .place, ap length second)
@@ -122,17 +120,29 @@ module _ {s : List ℕ} (k : Head-kept s) where
     pub forms-inside : k .at + m .at ≤ length s
     forms-inside = omega (arith, forms-taken)
 
-    forms-are : formulasPart s ≡ ok record { principals = k .principals; atoms = k .atoms; forms = formsGot .things } (formsGot .rest)
-    forms-are = formulas-whole s counts (headRead .rest) (formsGot .things) (formsGot .rest) (headRead .is) (sym same-forms ∙ formsGot .is)
+    abbrev joined : Formulas
+    joined = record { principals = headRead .thing .principals; atoms = headRead .thing .atoms; forms = formsGot .things }
 
-    pub forms-joined : (Head.Read (k .principals) (k .atoms) (k .count) (k .at + m .at) ≡ formulasOf (length s) (formulasPart s)) ×
+    forms-are : formulasPart s ≡ ok joined (formsGot .rest)
+    forms-are = formulas-whole s (headRead .thing) (headRead .rest) (formsGot .things) (formsGot .rest) (headRead .is) (sym same-forms ∙ formsGot .is)
+
+    -- As many formulas as were counted.
+    many-forms : headRead .thing .formulas ≡ length (formsGot .things)
+    many-forms =
+        sym (ap (λ (c : Counts). c .formulas) (headRead .counted)) ∙
+        sym (many-length (formItem (k .counts .principals) (k .counts .atoms)) (k .counts .formulas) [] (behindHead k) (formsGot .things) (formsGot .rest) (formsGot .is))
+
+    forms-counted : k .counts ≡ formulasCounts joined
+    forms-counted =
+        headRead .counted ∙
+        (λ i. record { principals = headRead .thing .principals; atoms = headRead .thing .atoms; formulas = many-forms i; policy = 0; goal = 0; steps = 0 })
+
+    pub forms-joined : (Part.Read (k .counts) (k .at + m .at) ≡ partOf formulasCounts (length s) (formulasPart s)) ×
         ((f : Formulas) (rest : List ℕ) → formulasPart s ≡ ok f rest → m .numbers ≡ table formEntry (m .len) (f .forms))
     forms-joined = (
-      formulas-read (length s) (formulasPart s) (k .principals) (k .atoms) (k .count) (k .at + m .at) (formsGot .things) (formsGot .rest) forms-are
-          (sym (many-length (formItem (k .principals) (k .atoms)) (k .count) [] (behindHead k) (formsGot .things) (formsGot .rest) (formsGot .is))) forms-taken,
+      part-read formulasCounts (length s) (formulasPart s) (k .counts) (k .at + m .at) joined (formsGot .rest) forms-are forms-counted forms-taken,
       λ f rest g. m .stored (formsGot .things) (formsGot .rest) (formsGot .is) ∙ ap (λ h. table formEntry (m .len) (h .forms))
-          (same-things (formulasPart s) record { principals = k .principals; atoms = k .atoms; forms = formsGot .things } f
-          (formsGot .rest) rest forms-are g),
+          (same-things (formulasPart s) joined f (formsGot .rest) rest forms-are g),
     )
 
 -- The table of classes asks what the definition asks.
@@ -278,13 +288,19 @@ module _ {numbers : List ℕ} {n : ℕ} {s : List ℕ} (k : Clauses-kept numbers
           (number-ok "goal=" (goalRefusal (rows numbers n)) (goalAt (length (rows numbers n)) (length (linesGot .things))) (linesGot .rest) rest goal
           goal-behind (goal-asked (NumberLine.Number goal) e))
 
-      pub policy-joined : (Policy.Read (k .count) goal (length s - length rest) ≡ policySection (length s) (policyPart (unpack formEntry n numbers) s))
-          ×
+      -- With the counts c before the policy, the code makes these.
+      abbrev pub policyCounted : Counts → Counts
+      policyCounted c =
+          record { principals = c .principals; atoms = c .atoms; formulas = c .formulas; policy = k .count; goal = goal; steps = 0 }
+
+      pub policy-joined : (c : Counts) →
+          (Part.Read (policyCounted c) (length s - length rest) ≡ partOf (policyCounts c) (length s) (policyPart (unpack formEntry n numbers) s)) ×
           ((p : PolicyRead) (over : List ℕ) → policyPart (unpack formEntry n numbers) s ≡ ok p over → m .numbers ≡ table policyEntry (m .len)
           (p .policy))
-      policy-joined = (
-        policy-read (length s) (policyPart (rows numbers n) s) (k .count) goal (length s - length rest) (linesGot .things) rest policy-is
-            (sym many-lines) refl,
+      policy-joined c = (
+        part-read (policyCounts c) (length s) (policyPart (rows numbers n) s) (policyCounted c) (length s - length rest)
+            record { policy = linesGot .things; goal = goal } rest policy-is
+            (λ i. record { principals = c .principals; atoms = c .atoms; formulas = c .formulas; policy = sym many-lines i; goal = goal; steps = 0 }) refl,
         λ p over h. m .stored (linesGot .things) (linesGot .rest) (linesGot .is) ∙ ap (λ y. table policyEntry (m .len) (y .policy))
             (same-things (policyPart (rows numbers n) s) record { policy = linesGot .things; goal = goal } p rest over policy-is h),
       )
@@ -339,11 +355,21 @@ module _ {formulas clauses : ℕ} {s : List ℕ} (k : Steps-counted formulas cla
     pub rows-inside : length s - length (k .rest) + m .at ≤ length s
     rows-inside = omega (arith, rows-taken)
 
-    pub steps-joined : (Steps.Read (k .count) (length s - length (k .rest) + m .at) ≡ stepSection (length s) (stepsPart formulas clauses s)) ×
+    -- With the counts c before the steps, the code makes these.
+    abbrev pub stepsCounted : Counts → Counts
+    stepsCounted c =
+        record { principals = c .principals; atoms = c .atoms; formulas = c .formulas; policy = c .policy; goal = c .goal; steps = k .count }
+
+    many-rows : k .count ≡ length (rowsGot .things)
+    many-rows = sym (many-length (stepItem formulas clauses) (k .count) [] (k .rest) (rowsGot .things) (rowsGot .rest) (rowsGot .is))
+
+    pub steps-joined : (c : Counts) →
+        (Part.Read (stepsCounted c) (length s - length (k .rest) + m .at) ≡ partOf (stepsCounts c) (length s) (stepsPart formulas clauses s)) ×
         ((rows : List Row) (rest : List ℕ) → stepsPart formulas clauses s ≡ ok rows rest → m .numbers ≡ table stepEntry (m .len) rows)
-    steps-joined = (
-      steps-read (length s) (stepsPart formulas clauses s) (k .count) (length s - length (k .rest) + m .at) (rowsGot .things) (rowsGot .rest)
-          (whole ∙ rowsGot .is) (sym (many-length (stepItem formulas clauses) (k .count) [] (k .rest) (rowsGot .things) (rowsGot .rest) (rowsGot .is))) rows-taken,
+    steps-joined c = (
+      part-read (stepsCounts c) (length s) (stepsPart formulas clauses s) (stepsCounted c) (length s - length (k .rest) + m .at) (rowsGot .things) (rowsGot .rest)
+          (whole ∙ rowsGot .is)
+          (λ i. record { principals = c .principals; atoms = c .atoms; formulas = c .formulas; policy = c .policy; goal = c .goal; steps = many-rows i }) rows-taken,
       λ rows rest g. m .stored (rowsGot .things) (rowsGot .rest) (rowsGot .is) ∙ ap (table stepEntry (m .len))
           (same-things (stepsPart formulas clauses s) (rowsGot .things) rows (rowsGot .rest) rest (whole ∙ rowsGot .is) g),
     )

@@ -20,15 +20,13 @@ use Rattle.common.specs.Answers.{answerOf, answerIs}
 use Rattle.common.specs.declared.Counts.{Counts}
 use Rattle.common.specs.declared.Answer.{Answer as Returned}
 use Rattle.reader.specs.Sections.{Formulas, PolicyRead, formulasPart, policyPart, stepsPart}
-use Rattle.reader.specs.Answers.{readingOf, formulasOf, policySection, stepSection}
+use Rattle.reader.specs.Answers.{countsOf, readingOf, formulasCounts, policyCounts, stepsCounts, partOf}
 use Rattle.reader.specs.Many.{tail-length}
 use Rattle.reader.specs.Stored.{table-none, unpack-table}
 use Rattle.reader.specs.Whole.{requestWith, sections, request-sections, formulas-ends, policy-ends, steps-ends}
-use Rattle.reader.specs.Got.{partFrom, part-is, Formulas-got, formulas-got, formulas-lost, Policy-got, policy-got, policy-lost, Steps-got, steps-got, steps-lost}
+use Rattle.reader.specs.Got.{partFrom, part-is, Part-got, part-got, part-lost}
 use Rattle.reader.specs.declared.Reading.the-variants as Reading
-use Rattle.reader.specs.declared.Head.the-variants as Head
-use Rattle.reader.specs.declared.Policy.the-variants as Policy
-use Rattle.reader.specs.declared.Steps.the-variants as Steps
+use Rattle.reader.specs.declared.Part.the-variants as Part
 
 -- Refused or read, an outcome is one of the two.
 outcome-never : {X : Type 0} (o : Outcome) (k i : ℕ) (q : Request) → o ≡ refused (answer k i) → o ≡ read q → X
@@ -72,16 +70,15 @@ module _ (t : List ℕ) where
       unfolding sections _>>=_ andThen
       file-whole rows v c = rw a (rw b (rw c refl))
 
-  pub formulas-end : (x : Returned) → formulasOf (length t) (formulasPart t) ≡ Head.Refused x → readRequest t ≡ refused (answerIs x)
-  formulas-end x e = read-refused (x .refusal) (x .place) (file-at-formulas (x .refusal) (x .place) (formulas-lost (length t) (formulasPart t) x e))
+  pub formulas-end : (x : Returned) → partOf formulasCounts (length t) (formulasPart t) ≡ Part.Refused x → readRequest t ≡ refused (answerIs x)
+  formulas-end x e =
+      read-refused (x .refusal) (x .place) (file-at-formulas (x .refusal) (x .place) (part-lost formulasCounts (length t) (formulasPart t) x e))
 
 -- The formulas, the policy and the steps of a text as the calls that read them left them: the counts, where the next begins, and the table.
 pub record Formulas-kept (t : List ℕ) : Type 0 where
-  pub principals : ℕ
-  pub atoms : ℕ
-  pub count : ℕ
+  pub counts : Counts
   pub at : ℕ
-  pub is : formulasOf (length t) (formulasPart t) ≡ Head.Read principals atoms count at
+  pub is : partOf formulasCounts (length t) (formulasPart t) ≡ Part.Read counts at
   pub numbers : List ℕ
   pub len : ℕ
   pub stored : (f : Formulas) (rest : List ℕ) → formulasPart t ≡ ok f rest → numbers ≡ table formEntry len (f .forms)
@@ -91,13 +88,12 @@ abbrev pub behindFormulas : {t : List ℕ} → Formulas-kept t → List ℕ
 behindFormulas {t} k = partFrom (k .at) t
 
 abbrev pub policyRead : {t : List ℕ} → Formulas-kept t → Read PolicyRead
-policyRead k = policyPart (unpack formEntry (k .count) (k .numbers)) (behindFormulas k)
+policyRead k = policyPart (unpack formEntry (k .counts .formulas) (k .numbers)) (behindFormulas k)
 
 pub record Policy-kept {t : List ℕ} (k : Formulas-kept t) : Type 0 where
-  pub count : ℕ
-  pub goal : ℕ
+  pub counts : Counts
   pub at : ℕ
-  pub is : policySection (length (behindFormulas k)) (policyRead k) ≡ Policy.Read count goal at
+  pub is : partOf (policyCounts (k .counts)) (length (behindFormulas k)) (policyRead k) ≡ Part.Read counts at
   pub numbers : List ℕ
   pub len : ℕ
   pub stored : (p : PolicyRead) (rest : List ℕ) → policyRead k ≡ ok p rest → numbers ≡ table policyEntry len (p .policy)
@@ -106,106 +102,103 @@ abbrev pub behindPolicy : {t : List ℕ} {k : Formulas-kept t} → Policy-kept k
 behindPolicy {t} {k} p = partFrom (p .at) (behindFormulas k)
 
 abbrev pub stepsRead : {t : List ℕ} {k : Formulas-kept t} → Policy-kept k → Read (List Row)
-stepsRead {t} {k} p = stepsPart (k .count) (p .count) (behindPolicy p)
+stepsRead {t} {k} p = stepsPart (p .counts .formulas) (p .counts .policy) (behindPolicy p)
 
 pub record Steps-kept {t : List ℕ} {k : Formulas-kept t} (p : Policy-kept k) : Type 0 where
-  pub count : ℕ
+  pub counts : Counts
   pub at : ℕ
-  pub is : stepSection (length (behindPolicy p)) (stepsRead p) ≡ Steps.Read count at
+  pub is : partOf (stepsCounts (p .counts)) (length (behindPolicy p)) (stepsRead p) ≡ Part.Read counts at
   pub numbers : List ℕ
   pub len : ℕ
   pub stored : (rows : List Row) (rest : List ℕ) → stepsRead p ≡ ok rows rest → numbers ≡ table stepEntry len rows
 
 module _ {t : List ℕ} (k : Formulas-kept t) where
   -- The formulas, and the text behind them.
-  fg : Formulas-got (length t) (formulasPart t) (k .principals) (k .atoms) (k .count) (k .at)
-  fg = formulas-got (length t) (formulasPart t) (k .principals) (k .atoms) (k .count) (k .at) (k .is)
-
-  abbrev formulasGot : Formulas
-  formulasGot = record { principals = k .principals; atoms = k .atoms; forms = fg .forms }
+  fg : Part-got formulasCounts (length t) (formulasPart t) (k .counts) (k .at)
+  fg = part-got formulasCounts (length t) (formulasPart t) (k .counts) (k .at) (k .is)
 
   second : behindFormulas k ≡ fg .rest
-  second = part-is formulasPart formulas-ends t formulasGot (fg .rest) (k .at) (fg .is) (fg .place)
+  second = part-is formulasPart formulas-ends t (fg .thing) (fg .rest) (k .at) (fg .is) (fg .place)
 
   pub formulas-place : k .at ≤ length t
   formulas-place = omega (arith, fg .place)
 
-  rows-are : unpack formEntry (k .count) (k .numbers) ≡ fg .forms
-  rows-are = ap (λ l. unpack formEntry (k .count) l) (k .stored formulasGot (fg .rest) (fg .is)) ∙ unpack-table (k .len) (fg .forms) (k .count)
-      (fg .count)
+  many-forms : k .counts .formulas ≡ length (fg .thing .forms)
+  many-forms = ap (λ (c : Counts). c .formulas) (fg .counted)
 
-  same-policy : policyRead k ≡ policyPart (fg .forms) (fg .rest)
+  rows-are : unpack formEntry (k .counts .formulas) (k .numbers) ≡ fg .thing .forms
+  rows-are =
+      ap (λ l. unpack formEntry (k .counts .formulas) l) (k .stored (fg .thing) (fg .rest) (fg .is)) ∙
+      unpack-table (k .len) (fg .thing .forms) (k .counts .formulas) many-forms
+
+  same-policy : policyRead k ≡ policyPart (fg .thing .forms) (fg .rest)
   same-policy = λ i. policyPart (rows-are i) (second i)
 
-  pub policy-end : (x : Returned) → policySection (length (behindFormulas k)) (policyRead k) ≡ Policy.Refused x → readRequest t
+  pub policy-end : (x : Returned) → partOf (policyCounts (k .counts)) (length (behindFormulas k)) (policyRead k) ≡ Part.Refused x → readRequest t
       ≡ refused (answerIs x)
   policy-end x d =
       read-refused t (x .refusal) (x .place)
-      (file-at-policy t formulasGot (fg .rest) (fg .is) (x .refusal) (x .place)
-      (sym same-policy ∙ policy-lost (length (behindFormulas k)) (policyRead k) x d))
+      (file-at-policy t (fg .thing) (fg .rest) (fg .is) (x .refusal) (x .place)
+      (sym same-policy ∙ part-lost (policyCounts (k .counts)) (length (behindFormulas k)) (policyRead k) x d))
 
   module _ (p : Policy-kept k) where
     -- The policy and the goal, and the text behind them.
-    pg : Policy-got (length (behindFormulas k)) (policyRead k) (p .count) (p .goal) (p .at)
-    pg = policy-got (length (behindFormulas k)) (policyRead k) (p .count) (p .goal) (p .at) (p .is)
-
-    abbrev policyGot : PolicyRead
-    policyGot = record { policy = pg .policy; goal = p .goal }
+    pg : Part-got (policyCounts (k .counts)) (length (behindFormulas k)) (policyRead k) (p .counts) (p .at)
+    pg = part-got (policyCounts (k .counts)) (length (behindFormulas k)) (policyRead k) (p .counts) (p .at) (p .is)
 
     third : behindPolicy p ≡ pg .rest
-    third = part-is (policyPart (unpack formEntry (k .count) (k .numbers))) (policy-ends (unpack formEntry (k .count) (k .numbers)))
-        (behindFormulas k) policyGot (pg .rest) (p .at) (pg .is) (pg .place)
+    third = part-is (policyPart (unpack formEntry (k .counts .formulas) (k .numbers)))
+        (policy-ends (unpack formEntry (k .counts .formulas) (k .numbers)))
+        (behindFormulas k) (pg .thing) (pg .rest) (p .at) (pg .is) (pg .place)
 
     pub policy-place : p .at ≤ length (behindFormulas k)
     policy-place = omega (arith, pg .place)
 
-    same-steps : stepsRead p ≡ stepsPart (length (fg .forms)) (length (pg .policy)) (pg .rest)
-    same-steps = λ i. stepsPart (fg .count i) (pg .count i) (third i)
+    -- The counts up to the steps.
+    counted : p .counts ≡ policyCounts (formulasCounts (fg .thing)) (pg .thing)
+    counted = pg .counted ∙ ap (λ c. policyCounts c (pg .thing)) (fg .counted)
 
-    pub steps-end : (x : Returned) → stepSection (length (behindPolicy p)) (stepsRead p) ≡ Steps.Refused x → readRequest t
+    same-steps : stepsRead p ≡ stepsPart (length (fg .thing .forms)) (length (pg .thing .policy)) (pg .rest)
+    same-steps = λ i. stepsPart (counted i .formulas) (counted i .policy) (third i)
+
+    pub steps-end : (x : Returned) → partOf (stepsCounts (p .counts)) (length (behindPolicy p)) (stepsRead p) ≡ Part.Refused x → readRequest t
         ≡ refused (answerIs x)
     steps-end x h =
         read-refused t (x .refusal) (x .place)
-        (file-at-steps t formulasGot (fg .rest) (fg .is) policyGot (pg .rest) (sym same-policy ∙ pg .is) (x .refusal) (x .place)
-        (sym same-steps ∙ steps-lost (length (behindPolicy p)) (stepsRead p) x h))
+        (file-at-steps t (fg .thing) (fg .rest) (fg .is) (pg .thing) (pg .rest) (sym same-policy ∙ pg .is) (x .refusal) (x .place)
+        (sym same-steps ∙ part-lost (stepsCounts (p .counts)) (length (behindPolicy p)) (stepsRead p) x h))
 
     module _ (s : Steps-kept p) where
       -- The steps, and whether anything follows.
-      sg : Steps-got (length (behindPolicy p)) (stepsRead p) (s .count) (s .at)
-      sg = steps-got (length (behindPolicy p)) (stepsRead p) (s .count) (s .at) (s .is)
+      sg : Part-got (stepsCounts (p .counts)) (length (behindPolicy p)) (stepsRead p) (s .counts) (s .at)
+      sg = part-got (stepsCounts (p .counts)) (length (behindPolicy p)) (stepsRead p) (s .counts) (s .at) (s .is)
 
       abbrev joined : Request
-      joined = requestWith formulasGot policyGot (sg .rows)
+      joined = requestWith (fg .thing) (pg .thing) (sg .thing)
 
       all-lines : sections t ≡ ok joined (sg .rest)
-      all-lines = file-whole t formulasGot (fg .rest) (fg .is) policyGot (pg .rest) (sym same-policy ∙ pg .is) (sg .rows) (sg .rest)
+      all-lines = file-whole t (fg .thing) (fg .rest) (fg .is) (pg .thing) (pg .rest) (sym same-policy ∙ pg .is) (sg .thing) (sg .rest)
           (sym same-steps ∙ sg .is)
 
       over-short : length (sg .rest) ≤ length (behindPolicy p)
       over-short = tail-length (sg .rest) (behindPolicy p)
-          (steps-ends (k .count) (p .count) .ends (behindPolicy p) (sg .rows) (sg .rest) (sg .is))
+          (steps-ends (p .counts .formulas) (p .counts .policy) .ends (behindPolicy p) (sg .thing) (sg .rest) (sg .is))
 
-      pub bytes-after : s .at < length (behindPolicy p) → readRequest t ≡ refused (answer 6 (endAt (k .count) (p .count) (s .count)))
+      all-counted : s .counts ≡ countsOf joined
+      all-counted = sg .counted ∙ ap (λ c. stepsCounts c (sg .thing)) counted
+
+      pub bytes-after : s .at < length (behindPolicy p) → readRequest t
+          ≡ refused (answer 6 (endAt (s .counts .formulas) (s .counts .policy) (s .counts .steps)))
       bytes-after l =
           read-over t joined (sg .rest) all-lines (omega (arith, sg .place)) ∙
-          (λ i. refused (answer 6 (endAt (sym (fg .count) i) (sym (pg .count) i) (sym (sg .count) i))))
+          sym (λ i. refused (answer 6 (endAt (all-counted i .formulas) (all-counted i .policy) (all-counted i .steps))))
 
-      abbrev counts : Counts
-      counts = record { principals = k .principals; atoms = k .atoms; formulas = k .count; policy = p .count; goal = p .goal; steps = s .count }
-
-      counts-are : Reading.Read counts ≡ readingOf (read joined)
+      counts-are : Reading.Read (s .counts) ≡ readingOf (read joined)
       unfolding readingOf
-      counts-are = λ i. Reading.Read record {
-        principals = k .principals;
-        atoms = k .atoms;
-        formulas = fg .count i;
-        policy = pg .count i;
-        goal = p .goal;
-        steps = sg .count i;
-      }
+      counts-are = ap Reading.Read all-counted
 
       -- The answer, and the three tables, of a text that ends with its steps.
-      pub all-read : length (behindPolicy p) ≤ s .at → (Reading.Read counts ≡ readingOf (readRequest t)) ×
+      pub all-read : length (behindPolicy p) ≤ s .at → (Reading.Read (s .counts) ≡ readingOf (readRequest t)) ×
           (((q : Request) → readRequest t ≡ read q → k .numbers ≡ table formEntry (k .len) (q .forms)) ×
           (((q : Request) → readRequest t ≡ read q → p .numbers ≡ table policyEntry (p .len) (q .policy)) ×
           ((q : Request) → readRequest t ≡ read q → s .numbers ≡ table stepEntry (s .len) (q .steps))))
@@ -213,12 +206,12 @@ module _ {t : List ℕ} (k : Formulas-kept t) where
           let o = read-whole t joined (sg .rest) all-lines (omega (arith, sg .place, over-short)) in (
             counts-are ∙ ap readingOf (sym o),
             (
-              (λ q z. k .stored formulasGot (fg .rest) (fg .is) ∙ ap (λ u. table formEntry (k .len) (u .forms))
+              (λ q z. k .stored (fg .thing) (fg .rest) (fg .is) ∙ ap (λ u. table formEntry (k .len) (u .forms))
                   (same-request (readRequest t) joined q o z)),
               (
-                (λ q z. p .stored policyGot (pg .rest) (pg .is) ∙ ap (λ u. table policyEntry (p .len) (u .policy))
+                (λ q z. p .stored (pg .thing) (pg .rest) (pg .is) ∙ ap (λ u. table policyEntry (p .len) (u .policy))
                     (same-request (readRequest t) joined q o z)),
-                (λ q z. s .stored (sg .rows) (sg .rest) (sg .is) ∙ ap (λ u. table stepEntry (s .len) (u .steps))
+                (λ q z. s .stored (sg .thing) (sg .rest) (sg .is) ∙ ap (λ u. table stepEntry (s .len) (u .steps))
                     (same-request (readRequest t) joined q o z)),
               ),
             ),

@@ -26,7 +26,7 @@ use Rattle.steps.specs.declared.Pair.{Pair}
 use Rattle.steps.specs.Steps.{pairOf}
 use Rattle.refusals.specs.Rows.{row, classRefusal}
 use Rattle.reader.specs.Sections.{Counted, headPart, classedItem}
-use Rattle.reader.specs.Answers.{refusalIs, numberLineOf, rowLineOf, stepLineOf, sectionOf, headOf}
+use Rattle.reader.specs.Answers.{refusalIs, numberLineOf, rowLineOf, stepLineOf, sectionOf, headCounts, partOf}
 use Rattle.reader.specs.Lines.{no-form, no-step, out-row, val-row, out-step, Step-row, step-row, row-ok, row-bad, row-behind, value-ok, value-bad, value-behind}
 use Rattle.reader.specs.Many.{onto, many-more, many-stop, many-end, many-start, tail-length, rest-tail}
 use Rattle.reader.specs.Stored.{table-none, form-more, line-more, step-more}
@@ -38,7 +38,7 @@ use Rattle.reader.specs.declared.RowLine.the-variants as RowLine
 use Rattle.reader.specs.declared.StepLine.{StepLine}
 use Rattle.reader.specs.declared.StepLine.the-variants as StepLine
 use Rattle.reader.specs.declared.Section.the-variants as Section
-use Rattle.reader.specs.declared.Head.the-variants as Head
+use Rattle.reader.specs.declared.Part.the-variants as Part
 
 pub rest-short : (s rest : List ℕ) → rest ≡ restOf s → length rest ≤ length s
 rest-short s rest e = omega (arith, ap length e, tail-length (restOf s) s (rest-tail s))
@@ -247,11 +247,11 @@ module _ (s : List ℕ) where
         head-whole f s₄ d = rw a (rw b (rw c (rw d refl)))
 
 module _ (n : ℕ) (r : Read Counted) where
-  pub head-refused : (k i : ℕ) → r ≡ bad (answer k i) → Head.Refused (refusalIs k i) ≡ headOf n r
-  unfolding headOf
+  pub head-refused : (k i : ℕ) → r ≡ bad (answer k i) → Part.Refused (refusalIs k i) ≡ partOf headCounts n r
+  unfolding partOf
   head-refused k i e = rw e refl
 
-  pub head-read : (p a f : ℕ) (rest : List ℕ) → r ≡ ok record { principals = p; atoms = a; formulas = f } rest → Head.Read p a f
-      (n - length rest) ≡ headOf n r
-  unfolding headOf
+  pub head-read : (p a f : ℕ) (rest : List ℕ) → r ≡ ok record { principals = p; atoms = a; formulas = f } rest → Part.Read
+      record { principals = p; atoms = a; formulas = f; policy = 0; goal = 0; steps = 0 } (n - length rest) ≡ partOf headCounts n r
+  unfolding partOf
   head-read p a f rest e = rw e refl

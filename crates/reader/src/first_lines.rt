@@ -1,6 +1,7 @@
 // The first four lines: version, principals, atoms, formulas.
-use crate::Head;
 use crate::NumberLine;
+use crate::Part;
+use common::Counts;
 use lines::Number;
 ghost use mathlib.Core.Path.{_≡_};
 ghost use Prim.Native.Nat.{_≤_};
@@ -10,7 +11,7 @@ ghost use Rattle.scope.specs.File.Number.{number};
 ghost use Rattle.scope.specs.File.Line.{shapedAs};
 ghost use Rattle.scope.specs.File.Refusals.{countRefusal};
 ghost use Rattle.lines.specs.Parts.{valueOf};
-ghost use Rattle.reader.specs.Answers.{numberLineOf, headOf, formulaCount};
+ghost use Rattle.reader.specs.Answers.{numberLineOf, headCounts, partOf, formulaCount};
 ghost use Rattle.reader.specs.Sections.{headPart};
 
 // A line with a count between `least` and `most`.
@@ -31,30 +32,38 @@ pub(crate) fn count_line(text: &[u8], key: &[u8], least: u16, most: u16) -> Numb
     NumberLine::Number(n as u16)
 }
 
-pub(crate) fn read_head(text: &[u8]) -> Head
-    ensures { λ r. ⌜ r ≡ headOf (length (now (text .entry))) (headPart (now (text .entry))) ⌝ }
+pub(crate) fn read_head(text: &[u8]) -> Part
+    ensures { λ r. ⌜ r ≡ partOf headCounts (length (now (text .entry))) (headPart (now (text .entry))) ⌝ }
     ensures { λ r. ⌜ formulaCount r ≤ mostFormulas ⌝ }
 {
     let version = count_line(text, b"version=", 1, 1);
     let NumberLine::Number(_) = version else {
-        return Head::Refused(crate::number_refused(version, common::version_at()));
+        return Part::Refused(crate::number_refused(version, common::version_at()));
     };
     let second = lines::rest_of(text);
     let principals = count_line(second, b"principals=", 1, common::MOST_PRINCIPALS);
     let NumberLine::Number(p) = principals else {
-        return Head::Refused(crate::number_refused(principals, common::principals_at()));
+        return Part::Refused(crate::number_refused(principals, common::principals_at()));
     };
     let third = lines::rest_of(second);
     let atoms = count_line(third, b"atoms=", 1, common::MOST_ATOMS);
     let NumberLine::Number(a) = atoms else {
-        return Head::Refused(crate::number_refused(atoms, common::atoms_at()));
+        return Part::Refused(crate::number_refused(atoms, common::atoms_at()));
     };
     let fourth = lines::rest_of(third);
     let formulas = count_line(fourth, b"formulas=", 1, common::MOST_FORMULAS);
     let NumberLine::Number(f) = formulas else {
-        return Head::Refused(crate::number_refused(formulas, common::formulas_at()));
+        return Part::Refused(crate::number_refused(formulas, common::formulas_at()));
     };
     let rest = lines::rest_of(fourth);
     let at = text.len() - rest.len();
-    Head::Read(p, a, f, at)
+    let counts = Counts {
+        principals: p,
+        atoms: a,
+        formulas: f,
+        policy: 0,
+        goal: 0,
+        steps: 0,
+    };
+    Part::Read(counts, at)
 }

@@ -1,5 +1,5 @@
 // The `form=` lines.
-use crate::Head;
+use crate::Part;
 use crate::RowLine;
 use crate::Section;
 use lines::Row;
@@ -15,7 +15,7 @@ ghost use Rattle.scope.specs.File.Refusals.{rowRefusal};
 ghost use Rattle.scope.specs.File.Request.{Row as FormRow};
 ghost use Rattle.scope.specs.File.Reader.{formItem};
 ghost use Rattle.scope.specs.Call.Tables.{table, formEntry};
-ghost use Rattle.reader.specs.Answers.{rowLineOf, sectionOf, formulasOf, formulaCount};
+ghost use Rattle.reader.specs.Answers.{rowLineOf, sectionOf, formulasCounts, partOf, formulaCount};
 ghost use Rattle.reader.specs.Sections.{Formulas, formulasPart};
 
 // The value of a `form=` line.
@@ -65,21 +65,27 @@ fn read_forms(text: &[u8], principals: u16, atoms: u16, formulas: u16, forms: &m
     Section::Read(taken)
 }
 
-pub(crate) fn read_formulas(text: &[u8], forms: &mut [u16]) -> Head
+pub(crate) fn read_formulas(text: &[u8], forms: &mut [u16]) -> Part
     requires { ⌜ (3 * mostFormulas ≤ length (now forms)) × (now forms ≡ replicate (length (now forms)) 0) ⌝ }
-    ensures { λ r. ⌜ r ≡ formulasOf (length (now (text .entry))) (formulasPart (now (text .entry))) ⌝ }
+    ensures { λ r. ⌜ r ≡ partOf formulasCounts (length (now (text .entry))) (formulasPart (now (text .entry))) ⌝ }
     ensures { λ r. ⌜ ((f : Formulas) (rest : List ℕ) → formulasPart (now (text .entry)) ≡ ok f rest → now (forms .exit) ≡ table formEntry (length (now (forms .entry))) (f .forms)) ⌝ }
     ensures { λ r. ⌜ formulaCount r ≤ mostFormulas ⌝ }
 {
     let head = crate::first_lines::read_head(text);
-    let Head::Read(principals, atoms, formulas, at) = head else {
+    let Part::Read(counts, at) = head else {
         return head;
     };
     let rest = &text[at..];
-    let got = read_forms(rest, principals, atoms, formulas, forms);
+    let got = read_forms(
+        rest,
+        counts.principals,
+        counts.atoms,
+        counts.formulas,
+        forms,
+    );
     let Section::Read(more) = got else {
-        return Head::Refused(crate::section_refused(got));
+        return Part::Refused(crate::section_refused(got));
     };
     let taken = at + more;
-    Head::Read(principals, atoms, formulas, taken)
+    Part::Read(counts, taken)
 }

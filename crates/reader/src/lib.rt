@@ -9,7 +9,7 @@ ghost use Rattle.scope.specs.Call.Tables.{table, formEntry, policyEntry, stepEn
 ghost use Rattle.scope.specs.Call.Calls.{reading, formTableAfter, policyTableAfter, stepTableAfter};
 ghost use Rattle.scope.specs.Call.Answer.{answer};
 ghost use Rattle.common.specs.Answers.{answerOf};
-ghost use Rattle.reader.specs.Answers.{numberRefusal, rowRefused, stepRefused, sectionRefused, headRefused, policyRefused, stepsRefused, readingOf};
+ghost use Rattle.reader.specs.Answers.{numberRefusal, rowRefused, stepRefused, sectionRefused, partRefused, readingOf};
 use common::Answer;
 use common::Counts;
 use steps::Step;
@@ -48,21 +48,9 @@ enum Section {
     Refused(Answer),
 }
 
-// Principals, atoms, formulas, and the bytes up to there.
-enum Head {
-    Read(u16, u16, u16, usize),
-    Refused(Answer),
-}
-
-// Policy lines, goal, and the bytes up to there.
-enum Policy {
-    Read(u16, u16, usize),
-    Refused(Answer),
-}
-
-// Steps, and the bytes up to there.
-enum Steps {
-    Read(u16, usize),
+// A part of the file: the counts up to its end, 0 where they come later, and the bytes that it takes; or the first refusal.
+enum Part {
+    Read(Counts, usize),
     Refused(Answer),
 }
 
@@ -115,39 +103,15 @@ fn section_refused(section: Section) -> Answer
     }
 }
 
-fn head_refused(head: Head) -> Answer
-    ensures { λ r. ⌜ r ≡ headRefused head ⌝ }
+fn part_refused(part: Part) -> Answer
+    ensures { λ r. ⌜ r ≡ partRefused part ⌝ }
 {
-    match head {
-        Head::Read(_, _, _, _) => Answer {
+    match part {
+        Part::Read(_, _) => Answer {
             refusal: 0,
             place: 0,
         },
-        Head::Refused(answer) => answer,
-    }
-}
-
-fn policy_refused(policy: Policy) -> Answer
-    ensures { λ r. ⌜ r ≡ policyRefused policy ⌝ }
-{
-    match policy {
-        Policy::Read(_, _, _) => Answer {
-            refusal: 0,
-            place: 0,
-        },
-        Policy::Refused(answer) => answer,
-    }
-}
-
-fn steps_refused(steps: Steps) -> Answer
-    ensures { λ r. ⌜ r ≡ stepsRefused steps ⌝ }
-{
-    match steps {
-        Steps::Read(_, _) => Answer {
-            refusal: 0,
-            place: 0,
-        },
-        Steps::Refused(answer) => answer,
+        Part::Refused(answer) => answer,
     }
 }
 
@@ -170,31 +134,24 @@ fn read_parts(text: &[u8], forms: &mut [u16], policy: &mut [u16], steps: &mut [u
     ensures { λ r. ⌜ ((q : Request) → readRequest (now (text .entry)) ≡ read q → now (steps .exit) ≡ table stepEntry (length (now (steps .entry))) (q .steps)) ⌝ }
 {
     let first = form_lines::read_formulas(text, forms);
-    let Head::Read(principals, atoms, formulas, at) = first else {
-        return Reading::Refused(head_refused(first));
+    let Part::Read(formulas, at) = first else {
+        return Reading::Refused(part_refused(first));
     };
     let second = &text[at..];
     let middle = policy_lines::read_policy(second, formulas, forms, policy);
-    let Policy::Read(clauses, goal, more) = middle else {
-        return Reading::Refused(policy_refused(middle));
+    let Part::Read(clauses, more) = middle else {
+        return Reading::Refused(part_refused(middle));
     };
     let third = &second[more..];
-    let last = step_lines::read_proof(third, formulas, clauses, steps);
-    let Steps::Read(count, end) = last else {
-        return Reading::Refused(steps_refused(last));
+    let last = step_lines::read_proof(third, clauses, steps);
+    let Part::Read(counts, end) = last else {
+        return Reading::Refused(part_refused(last));
     };
     if end < third.len() {
-        let place = common::end_at(formulas, clauses, count);
+        let place = common::end_at(counts.formulas, counts.policy, counts.steps);
         return Reading::Refused(Answer { refusal: 6, place });
     }
-    Reading::Read(Counts {
-        principals,
-        atoms,
-        formulas,
-        policy: clauses,
-        goal,
-        steps: count,
-    })
+    Reading::Read(counts)
 }
 
 // The request in a file of at most 65,536 bytes. Every lent table is zero past what was read, and all zero after a refusal.

@@ -1,7 +1,8 @@
 // The policy lines and the goal.
 use crate::NumberLine;
-use crate::Policy;
+use crate::Part;
 use crate::Section;
+use common::Counts;
 use lines::Number;
 ghost use mathlib.Core.Path.{_≡_};
 ghost use Prim.Native.Nat.{ℕ, _≤_};
@@ -14,7 +15,7 @@ ghost use Rattle.scope.specs.File.Line.{shapedAs, many, ok};
 ghost use Rattle.scope.specs.Call.Tables.{table, unpack, formEntry, policyEntry};
 ghost use Rattle.classes.specs.Class.{goalIn, policyIn};
 ghost use Rattle.lines.specs.Parts.{valueOf};
-ghost use Rattle.reader.specs.Answers.{numberLineOf, sectionOf, policySection};
+ghost use Rattle.reader.specs.Answers.{numberLineOf, sectionOf, policyCounts, partOf};
 ghost use Rattle.refusals.specs.Rows.{classRefusal};
 ghost use Rattle.reader.specs.Sections.{belowRefusal, classedItem, PolicyRead, policyPart};
 
@@ -93,29 +94,37 @@ fn read_clauses(
     Section::Read(taken)
 }
 
-pub(crate) fn read_policy(text: &[u8], formulas: u16, forms: &[u16], policy: &mut [u16]) -> Policy
-    requires { ⌜ (formulas ≤ mostFormulas) × (mostPolicyLines ≤ length (now policy)) × (now policy ≡ replicate (length (now policy)) 0) ⌝ }
-    ensures { λ r. ⌜ r ≡ policySection (length (now (text .entry))) (policyPart (unpack formEntry formulas (now (forms .entry))) (now (text .entry))) ⌝ }
-    ensures { λ r. ⌜ ((p : PolicyRead) (rest : List ℕ) → policyPart (unpack formEntry formulas (now (forms .entry))) (now (text .entry)) ≡ ok p rest → now (policy .exit) ≡ table policyEntry (length (now (policy .entry))) (p .policy)) ⌝ }
+pub(crate) fn read_policy(text: &[u8], counts: Counts, forms: &[u16], policy: &mut [u16]) -> Part
+    requires { ⌜ (counts .formulas ≤ mostFormulas) × (mostPolicyLines ≤ length (now policy)) × (now policy ≡ replicate (length (now policy)) 0) ⌝ }
+    ensures { λ r. ⌜ r ≡ partOf (policyCounts counts) (length (now (text .entry))) (policyPart (unpack formEntry (counts .formulas) (now (forms .entry))) (now (text .entry))) ⌝ }
+    ensures { λ r. ⌜ ((p : PolicyRead) (rest : List ℕ) → policyPart (unpack formEntry (counts .formulas) (now (forms .entry))) (now (text .entry)) ≡ ok p rest → now (policy .exit) ≡ table policyEntry (length (now (policy .entry))) (p .policy)) ⌝ }
 {
     let count = crate::first_lines::count_line(text, b"clauses=", 0, common::MOST_POLICY_LINES);
     let NumberLine::Number(clauses) = count else {
-        let place = common::clauses_at(formulas);
-        return Policy::Refused(crate::number_refused(count, place));
+        let place = common::clauses_at(counts.formulas);
+        return Part::Refused(crate::number_refused(count, place));
     };
     let second = lines::rest_of(text);
-    let classes = classes::classes_of(forms, formulas);
-    let got = read_clauses(second, formulas, &classes, clauses, policy);
+    let classes = classes::classes_of(forms, counts.formulas);
+    let got = read_clauses(second, counts.formulas, &classes, clauses, policy);
     let Section::Read(at) = got else {
-        return Policy::Refused(crate::section_refused(got));
+        return Part::Refused(crate::section_refused(got));
     };
     let third = &second[at..];
-    let last = goal_line(third, formulas, &classes);
+    let last = goal_line(third, counts.formulas, &classes);
     let NumberLine::Number(goal) = last else {
-        let place = common::goal_at(formulas, clauses);
-        return Policy::Refused(crate::number_refused(last, place));
+        let place = common::goal_at(counts.formulas, clauses);
+        return Part::Refused(crate::number_refused(last, place));
     };
     let rest = lines::rest_of(third);
     let taken = text.len() - rest.len();
-    Policy::Read(clauses, goal, taken)
+    let all = Counts {
+        principals: counts.principals,
+        atoms: counts.atoms,
+        formulas: counts.formulas,
+        policy: clauses,
+        goal,
+        steps: 0,
+    };
+    Part::Read(all, taken)
 }

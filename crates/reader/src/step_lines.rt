@@ -1,8 +1,9 @@
 // The `step=` lines.
 use crate::NumberLine;
+use crate::Part;
 use crate::Section;
 use crate::StepLine;
-use crate::Steps;
+use common::Counts;
 use lines::Row;
 ghost use mathlib.Core.Path.{_≡_};
 ghost use Prim.Native.Nat.{ℕ, _*_, _≤_};
@@ -15,7 +16,7 @@ ghost use Rattle.scope.specs.File.Refusals.{stepRefusal};
 ghost use Rattle.scope.specs.File.Request.{Row as StepRow};
 ghost use Rattle.scope.specs.File.Reader.{stepItem};
 ghost use Rattle.scope.specs.Call.Tables.{table, stepEntry};
-ghost use Rattle.reader.specs.Answers.{stepLineOf, sectionOf, stepSection};
+ghost use Rattle.reader.specs.Answers.{stepLineOf, sectionOf, stepsCounts, partOf};
 ghost use Rattle.reader.specs.Sections.{stepsPart};
 
 // The value of a `step=` line.
@@ -64,22 +65,30 @@ fn read_steps(text: &[u8], formulas: u16, clauses: u16, count: u16, steps: &mut 
     Section::Read(taken)
 }
 
-pub(crate) fn read_proof(text: &[u8], formulas: u16, clauses: u16, steps: &mut [u16]) -> Steps
+pub(crate) fn read_proof(text: &[u8], counts: Counts, steps: &mut [u16]) -> Part
     requires { ⌜ (2 * mostSteps ≤ length (now steps)) × (now steps ≡ replicate (length (now steps)) 0) ⌝ }
-    ensures { λ r. ⌜ r ≡ stepSection (length (now (text .entry))) (stepsPart formulas clauses (now (text .entry))) ⌝ }
-    ensures { λ r. ⌜ ((rows : List StepRow) (rest : List ℕ) → stepsPart formulas clauses (now (text .entry)) ≡ ok rows rest → now (steps .exit) ≡ table stepEntry (length (now (steps .entry))) rows) ⌝ }
+    ensures { λ r. ⌜ r ≡ partOf (stepsCounts counts) (length (now (text .entry))) (stepsPart (counts .formulas) (counts .policy) (now (text .entry))) ⌝ }
+    ensures { λ r. ⌜ ((rows : List StepRow) (rest : List ℕ) → stepsPart (counts .formulas) (counts .policy) (now (text .entry)) ≡ ok rows rest → now (steps .exit) ≡ table stepEntry (length (now (steps .entry))) rows) ⌝ }
 {
     let line = crate::first_lines::count_line(text, b"steps=", 1, common::MOST_STEPS);
     let NumberLine::Number(count) = line else {
-        let place = common::steps_at(formulas, clauses);
-        return Steps::Refused(crate::number_refused(line, place));
+        let place = common::steps_at(counts.formulas, counts.policy);
+        return Part::Refused(crate::number_refused(line, place));
     };
     let rest = lines::rest_of(text);
-    let got = read_steps(rest, formulas, clauses, count, steps);
+    let got = read_steps(rest, counts.formulas, counts.policy, count, steps);
     let Section::Read(at) = got else {
-        return Steps::Refused(crate::section_refused(got));
+        return Part::Refused(crate::section_refused(got));
     };
     let before = text.len() - rest.len();
     let taken = before + at;
-    Steps::Read(count, taken)
+    let all = Counts {
+        principals: counts.principals,
+        atoms: counts.atoms,
+        formulas: counts.formulas,
+        policy: counts.policy,
+        goal: counts.goal,
+        steps: count,
+    };
+    Part::Read(all, taken)
 }

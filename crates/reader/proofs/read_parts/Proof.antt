@@ -4,7 +4,7 @@ use mathlib.Core.Path.{refl, ap, sym, subst, _∙_}
 use lib.ListN.{length}
 use Rattle.scope.specs.Limits.{mostFormulas, endAt}
 use Rattle.scope.specs.File.Reader.{readRequest}
-use Rattle.reader.specs.Answers.{refusalIs, formulaCount, headRefused, policyRefused, stepsRefused}
+use Rattle.reader.specs.Answers.{refusalIs, formulaCount, partRefused}
 use Rattle.reader.specs.Outcomes.{Formulas-kept, Policy-kept, Steps-kept, formulas-end, formulas-place, policy-end, policy-place, steps-end, bytes-after, all-read, refused-all}
 use borrow.Author.Needs.{needs}
 use Rattle.reader.proofs.read_parts.Statement.{statement}
@@ -15,10 +15,8 @@ abbrev formulas : (c : tie.After-first) → Formulas-kept
     (c .before .before .before .before .before .before .before .before .before .before .args .text .now)
 formulas c =
     record {
-      principals = c .first .given .0 .0;
-      atoms = c .first .given .0 .1 .0;
-      count = c .first .given .0 .1 .1 .0;
-      at = c .first .given .0 .1 .1 .1 .0;
+      counts = c .first .given .0 .0;
+      at = c .first .given .0 .1 .0;
       is = sym (c .before .before .before .before .read-formulas .ensures .0) ∙ c .first .given .1;
       numbers = c .before .before .before .before .read-formulas .last .1 .0;
       len = length (c .before .before .before .before .before .before .before .before .before .before .args .forms .now);
@@ -28,9 +26,8 @@ formulas c =
 abbrev policy : (c : tie.After-middle) → Policy-kept (formulas (c .before .before .before .before .before .before .before .before .before))
 policy c =
     record {
-      count = c .middle .given .0 .0;
-      goal = c .middle .given .0 .1 .0;
-      at = c .middle .given .0 .1 .1 .0;
+      counts = c .middle .given .0 .0;
+      at = c .middle .given .0 .1 .0;
       is = sym (c .before .before .before .before .read-policy .ensures .0) ∙ c .middle .given .1;
       numbers = c .before .before .before .before .read-policy .last .1 .1 .1 .0;
       len = length (c .before .before .before .before .before .before .before .before .before .before .before .before .before .before .before .before .before .before .before .args .policy .now);
@@ -40,10 +37,10 @@ policy c =
 abbrev steps : (c : tie.After-last) → Steps-kept (policy (c .before .before .before .before .before .before .before .before))
 steps c =
     record {
-      count = c .last .given .0 .0;
+      counts = c .last .given .0 .0;
       at = c .last .given .0 .1 .0;
       is = sym (c .before .before .before .before .read-proof .ensures .0) ∙ c .last .given .1;
-      numbers = c .before .before .before .before .read-proof .last .1 .1 .1 .0;
+      numbers = c .before .before .before .before .read-proof .last .1 .1 .0;
       len = length (c .before .before .before .before .before .before .before .before .before .before .before .before .before .before .before .before .before .before .before .before .before .before .before .before .before .before .before .args .steps .now);
       stored = c .before .before .before .before .read-proof .ensures .1;
     }
@@ -57,8 +54,8 @@ enum-known-first c = c .match .keys1
 enum-told : tie.Need-enum-told
 enum-told c = c .match .keys2
 
-head-refused-requires : tie.Need-head-refused-requires
-head-refused-requires c κs = tt
+part-refused-requires : tie.Need-part-refused-requires
+part-refused-requires c κs = tt
 
 same-length : tie.Need-same-length
 same-length c = c .before .before .before .before .before .read-formulas .kept .1 .0
@@ -66,8 +63,8 @@ same-length c = c .before .before .before .before .before .read-formulas .kept .
 returns : tie.Need-returns
 returns c =
     refused-all (readRequest (c .before .before .before .before .before .before .before .before .before .before .before .args .text .now))
-    (c .before .enum-told .given .0 .0) (c .head-refused .result)
-    (c .head-refused .ensures ∙ ap headRefused (c .before .enum-told .given .1))
+    (c .before .enum-told .given .0 .0) (c .part-refused .result)
+    (c .part-refused .ensures ∙ ap partRefused (c .before .enum-told .given .1))
     (formulas-end (c .before .before .before .before .before .before .before .before .before .before .before .args .text .now)
     (c .before .enum-told .given .0 .0)
     (sym (c .before .before .before .before .before .read-formulas .ensures .0) ∙ c .before .enum-told .given .1))
@@ -95,8 +92,8 @@ enum-known-middle c = c .match2 .keys1
 enum-told-2 : tie.Need-enum-told-2
 enum-told-2 c = c .match2 .keys2
 
-policy-refused-requires : tie.Need-policy-refused-requires
-policy-refused-requires c κs = tt
+part-refused-requires-2 : tie.Need-part-refused-requires-2
+part-refused-requires-2 c κs = tt
 
 same-length-2 : tie.Need-same-length-2
 same-length-2 c =
@@ -109,8 +106,8 @@ returns-2 : tie.Need-returns-2
 returns-2 c =
     refused-all (readRequest
     (c .before .before .before .before .before .before .before .before .before .before .before .before .before .before .before .before .before .before .before .before .args .text .now))
-    (c .before .enum-told2 .given .0 .0) (c .policy-refused .result)
-    (c .policy-refused .ensures ∙ ap policyRefused (c .before .enum-told2 .given .1))
+    (c .before .enum-told2 .given .0 .0) (c .part-refused2 .result)
+    (c .part-refused2 .ensures ∙ ap partRefused (c .before .enum-told2 .given .1))
     (policy-end (formulas (c .before .before .before .before .before .before .before .before .before .before))
     (c .before .enum-told2 .given .0 .0)
     (sym (c .before .before .before .before .before .read-policy .ensures .0) ∙ c .before .enum-told2 .given .1))
@@ -135,8 +132,8 @@ enum-known-last c = c .match3 .keys1
 enum-told-3 : tie.Need-enum-told-3
 enum-told-3 c = c .match3 .keys2
 
-steps-refused-requires : tie.Need-steps-refused-requires
-steps-refused-requires c κs = tt
+part-refused-requires-3 : tie.Need-part-refused-requires-3
+part-refused-requires-3 c κs = tt
 
 same-length-4 : tie.Need-same-length-4
 same-length-4 c =
@@ -147,14 +144,14 @@ same-length-5 c =
     c .before .before .before .before .before .before .before .before .before .before .before .before .before .read-policy .kept .1 .1 .1 .0
 
 same-length-6 : tie.Need-same-length-6
-same-length-6 c = c .before .before .before .before .before .read-proof .kept .1 .1 .1 .0
+same-length-6 c = c .before .before .before .before .before .read-proof .kept .1 .1 .0
 
 returns-3 : tie.Need-returns-3
 returns-3 c =
     refused-all (readRequest
     (c .before .before .before .before .before .before .before .before .before .before .before .before .before .before .before .before .before .before .before .before .before .before .before .before .before .before .before .before .args .text .now))
-    (c .before .enum-told3 .given .0 .0) (c .steps-refused .result)
-    (c .steps-refused .ensures ∙ ap stepsRefused (c .before .enum-told3 .given .1))
+    (c .before .enum-told3 .given .0 .0) (c .part-refused3 .result)
+    (c .part-refused3 .ensures ∙ ap partRefused (c .before .enum-told3 .given .1))
     (steps-end (formulas (c .before .before .before .before .before .before .before .before .before .before .before .before .before .before .before .before .before .before))
     (policy (c .before .before .before .before .before .before .before .before .before)) (c .before .enum-told3 .given .0 .0)
     (sym (c .before .before .before .before .before .read-proof .ensures .0) ∙ c .before .enum-told3 .given .1))
@@ -168,11 +165,11 @@ same-length-8 c =
     c .before .before .before .before .before .before .before .before .before .before .before .before .before .before .before .read-policy .kept .1 .1 .1 .0
 
 same-length-9 : tie.Need-same-length-9
-same-length-9 c = c .before .before .before .before .before .before .before .read-proof .kept .1 .1 .1 .0
+same-length-9 c = c .before .before .before .before .before .before .before .read-proof .kept .1 .1 .0
 
 returns-4 : tie.Need-returns-4
 returns-4 c =
-    let place = endAt (c .before .before .before .before .before .before .before .before .before .before .before .before .before .before .before .before .before .before .before .before .first .given .0 .1 .1 .0) (c .before .before .before .before .before .before .before .before .before .before .before .middle .given .0 .0) (c .before .before .before .last .given .0 .0) in
+    let place = endAt (c .before .before .before .last .given .0 .0 .formulas) (c .before .before .before .last .given .0 .0 .policy) (c .before .before .before .last .given .0 .0 .steps) in
     refused-all (readRequest
     (c .before .before .before .before .before .before .before .before .before .before .before .before .before .before .before .before .before .before .before .before .before .before .before .before .before .before .before .before .before .before .args .text .now)) (refusalIs 6 place) (refusalIs 6 (c .end-at .result)) (ap (refusalIs 6) (c .end-at .ensures))
     (bytes-after (formulas
@@ -188,7 +185,7 @@ same-length-11 c =
     c .before .before .before .before .before .before .before .before .before .before .before .before .before .before .read-policy .kept .1 .1 .1 .0
 
 same-length-12 : tie.Need-same-length-12
-same-length-12 c = c .before .before .before .before .before .before .read-proof .kept .1 .1 .1 .0
+same-length-12 c = c .before .before .before .before .before .before .read-proof .kept .1 .1 .0
 
 returns-5 : tie.Need-returns-5
 returns-5 c =
@@ -202,7 +199,7 @@ read-parts-spec =
     read-formulas-requires
     enum-known-first
     enum-told
-    head-refused-requires
+    part-refused-requires
     same-length
     returns
     sub-second
@@ -211,7 +208,7 @@ read-parts-spec =
     read-policy-requires
     enum-known-middle
     enum-told-2
-    policy-refused-requires
+    part-refused-requires-2
     same-length-2
     same-length-3
     returns-2
@@ -221,7 +218,7 @@ read-parts-spec =
     read-proof-requires
     enum-known-last
     enum-told-3
-    steps-refused-requires
+    part-refused-requires-3
     same-length-4
     same-length-5
     same-length-6

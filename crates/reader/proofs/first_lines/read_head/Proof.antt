@@ -10,7 +10,7 @@ use Rattle.scope.specs.File.Number.{number}
 use Rattle.lines.specs.Parts.{valueOf}
 use Rattle.reader.specs.Lines.{number-ok, number-bad, count-most}
 use Rattle.reader.specs.Turns.{rest-short, head-at-version, head-at-principals, head-at-atoms, head-at-formulas, head-whole, head-refused, head-read}
-use Rattle.reader.specs.declared.Head.the-variants as Head
+use Rattle.reader.specs.declared.Part.the-variants as Part
 use borrow.Author.Needs.{needs}
 use native.Mathlib.Omega.{arith}
 use Rattle.reader.proofs.first_lines.read_head.Statement.{statement}
@@ -37,7 +37,7 @@ returns c = let t = c .before .before .before .before .before .before .before .a
     let b = number-bad "version=" versionRefusal versionAt t k
     (sym (c .before .before .before .before .count-line .ensures) ∙ c .before .before .enum-told2 .given .1) in
     let r : c .number-refused .result ≡ refusalIs k versionAt = c .number-refused .ensures ∙ (λ j. refusalIs (numberRefusal (c .before .before .enum-told2 .given .1 j)) (c .before .version-at .ensures j)) in
-    (ap Head.Refused r ∙ head-refused (length t) (headPart t) k versionAt (head-at-version t k versionAt b), omega arith)
+    (ap Part.Refused r ∙ head-refused (length t) (headPart t) k versionAt (head-at-version t k versionAt b), omega arith)
 
 rest-of-requires : tie.Need-rest-of-requires
 rest-of-requires c κs = search needs
@@ -68,7 +68,7 @@ returns-2 c = let t = c .before .before .before .before .before .before .before 
     let b = number-bad "principals=" principalsRefusal principalsAt s1 k
     (sym (c .before .before .before .before .count-line2 .ensures) ∙ c .before .before .enum-told3 .given .1) in
     let r : c .number-refused2 .result ≡ refusalIs k principalsAt = c .number-refused2 .ensures ∙ (λ j. refusalIs (numberRefusal (c .before .before .enum-told3 .given .1 j)) (c .before .principals-at .ensures j)) in
-    (ap Head.Refused r ∙ head-refused (length t) (headPart t) k principalsAt (head-at-principals t v s1 e1 k principalsAt b), omega arith)
+    (ap Part.Refused r ∙ head-refused (length t) (headPart t) k principalsAt (head-at-principals t v s1 e1 k principalsAt b), omega arith)
 
 rest-of-requires-2 : tie.Need-rest-of-requires-2
 rest-of-requires-2 c κs = search needs
@@ -105,7 +105,7 @@ returns-3 c =
     let k = c .before .before .enum-told4 .given .0 .0 in
     let b = number-bad "atoms=" atomsRefusal atomsAt s2 k (sym (c .before .before .before .before .count-line3 .ensures) ∙ c .before .before .enum-told4 .given .1) in
     let r : c .number-refused3 .result ≡ refusalIs k atomsAt = c .number-refused3 .ensures ∙ (λ j. refusalIs (numberRefusal (c .before .before .enum-told4 .given .1 j)) (c .before .atoms-at .ensures j)) in
-    (ap Head.Refused r ∙ head-refused (length t) (headPart t) k atomsAt (head-at-atoms t v s1 e1 p s2 e2 k atomsAt b), omega arith)
+    (ap Part.Refused r ∙ head-refused (length t) (headPart t) k atomsAt (head-at-atoms t v s1 e1 p s2 e2 k atomsAt b), omega arith)
 
 rest-of-requires-3 : tie.Need-rest-of-requires-3
 rest-of-requires-3 c κs = search needs
@@ -149,7 +149,7 @@ returns-4 c =
     let b = number-bad "formulas=" formulasRefusal formulasAt s3 k
     (sym (c .before .before .before .before .count-line4 .ensures) ∙ c .before .before .enum-told5 .given .1) in
     let r : c .number-refused4 .result ≡ refusalIs k formulasAt = c .number-refused4 .ensures ∙ (λ j. refusalIs (numberRefusal (c .before .before .enum-told5 .given .1 j)) (c .before .formulas-at .ensures j)) in
-    (ap Head.Refused r ∙ head-refused (length t) (headPart t) k formulasAt (head-at-formulas t v s1 e1 p s2 e2 n s3 e3 k formulasAt b), omega arith)
+    (ap Part.Refused r ∙ head-refused (length t) (headPart t) k formulasAt (head-at-formulas t v s1 e1 p s2 e2 n s3 e3 k formulasAt b), omega arith)
 
 rest-of-requires-4 : tie.Need-rest-of-requires-4
 rest-of-requires-4 c κs = search needs

@@ -5,10 +5,10 @@ use lib.ListN.{length}
 use Rattle.scope.specs.Limits.{mostFormulas}
 use Rattle.scope.specs.Call.Tables.{formEntry}
 use Rattle.reader.specs.Sections.{formulasPart}
-use Rattle.reader.specs.Answers.{formulaCount, sectionRefused}
-use Rattle.reader.specs.Got.{Section-kept, formulas-refused}
+use Rattle.reader.specs.Answers.{formulasCounts, formulaCount, sectionRefused}
+use Rattle.reader.specs.Got.{Section-kept, part-refused}
 use Rattle.reader.specs.Joins.{Head-kept, behindHead, formsRead, formulas-stopped, head-place, forms-stopped, forms-inside, forms-joined}
-use Rattle.reader.specs.declared.Head.the-variants as Head
+use Rattle.reader.specs.declared.Part.the-variants as Part
 use borrow.Author.Needs.{needs}
 use native.Mathlib.Omega.{arith}
 use Rattle.reader.proofs.form_lines.read_formulas.Statement.{statement}
@@ -18,10 +18,8 @@ use Rattle.reader.proofs.form_lines.read_formulas.Tie as tie
 abbrev counts : (c : tie.After-head) → Head-kept (c .before .before .before .before .before .args .text .now)
 counts c =
     record {
-      principals = c .head .given .0 .0;
-      atoms = c .head .given .0 .1 .0;
-      count = c .head .given .0 .1 .1 .0;
-      at = c .head .given .0 .1 .1 .1 .0;
+      counts = c .head .given .0 .0;
+      at = c .head .given .0 .1 .0;
       is = sym (c .before .before .read-head .ensures .0) ∙ c .head .given .1;
     }
 
@@ -38,7 +36,7 @@ forms c =
     }
 
 -- The bound on the count stands in what the call for the first four lines ensures.
-few : (c : tie.After-head) → c .head .given .0 .1 .1 .0 ≤ mostFormulas
+few : (c : tie.After-head) → c .head .given .0 .0 .formulas ≤ mostFormulas
 few c = subst (λ h. formulaCount h ≤ mostFormulas) (c .head .given .1) (c .before .before .read-head .ensures .1)
 
 read-head-requires : tie.Need-read-head-requires
@@ -54,7 +52,7 @@ returns : tie.Need-returns
 returns c =
     let t = c .before .before .before .before .before .args .text .now in
     let x = c .enum-told .given .0 .0 in
-    let r = formulas-refused (length t) (formulasPart t) x
+    let r = part-refused formulasCounts (length t) (formulasPart t) x
     (formulas-stopped t x (sym (c .before .before .read-head .ensures .0) ∙ c .enum-told .given .1)) (c .before .before .read-head .result)
     (c .enum-told .given .1) in
     (r .0, (r .1, c .before .before .read-head .ensures .1))
@@ -88,11 +86,11 @@ returns-2 : tie.Need-returns-2
 returns-2 c =
     let t = c .before .before .before .before .before .before .before .before .before .before .before .before .before .before .args .text .now in
     let x = c .before .enum-told2 .given .0 .0 in
-    let r = formulas-refused (length t) (formulasPart t) x
+    let r = part-refused formulasCounts (length t) (formulasPart t) x
     (forms-stopped (counts (c .before .before .before .before .before .before .before .before .before)) x
     (sym (c .before .before .before .before .before .read-forms .ensures .0) ∙ c .before .enum-told2 .given .1))
-    (Head.Refused (c .section-refused .result))
-    (ap Head.Refused (c .section-refused .ensures ∙ ap sectionRefused (c .before .enum-told2 .given .1))) in
+    (Part.Refused (c .section-refused .result))
+    (ap Part.Refused (c .section-refused .ensures ∙ ap sectionRefused (c .before .enum-told2 .given .1))) in
     (r .0, (r .1, omega arith))
 
 add-taken : tie.Need-add-taken

@@ -8,10 +8,11 @@ use Rattle.scope.specs.Limits.{mostPolicyLines, clausesAt, goalAt}
 use Rattle.scope.specs.Call.Tables.{unpack, formEntry, policyEntry}
 use Rattle.lines.specs.Parts.{valueOf}
 use Rattle.reader.specs.Sections.{policyPart}
-use Rattle.reader.specs.Answers.{refusalIs, numberRefusal, sectionRefused}
+use Rattle.reader.specs.Answers.{policyCounts, refusalIs, numberRefusal, sectionRefused}
 use Rattle.reader.specs.Lines.{count-most}
-use Rattle.reader.specs.Got.{Section-kept, policy-refused}
+use Rattle.reader.specs.Got.{Section-kept, part-refused}
 use Rattle.reader.specs.Joins.{Clauses-kept, linesRead, clauses-stopped, lines-stopped, lines-place, goal-stopped, goal-inside, policy-joined}
+use Rattle.reader.specs.declared.Part.the-variants as Part
 use borrow.Author.Needs.{needs}
 use Rattle.reader.proofs.policy_lines.read_policy.Statement.{statement}
 use Rattle.reader.proofs.policy_lines.read_policy.Tie as tie
@@ -19,7 +20,7 @@ use Rattle.reader.proofs.policy_lines.read_policy.Tie as tie
 -- The count, the text behind it and the classes; and the lines that were read.
 abbrev clauses : (c : tie.After-classes-of) → Clauses-kept
     (c .before .before .before .before .before .before .before .before .before .before .args .forms .now)
-    (c .before .before .before .before .before .before .before .before .before .before .args .formulas)
+    (c .before .before .before .before .before .before .before .before .before .before .args .counts .formulas)
     (c .before .before .before .before .before .before .before .before .before .before .args .text .now)
 clauses c =
     record {
@@ -61,15 +62,15 @@ number-refused-requires c κs = search needs
 
 returns : tie.Need-returns
 returns c =
-    let n = c .before .before .before .before .before .before .before .before .before .args .formulas in
+    let n = c .before .before .before .before .before .before .before .before .before .args .counts .formulas in
     let t = c .before .before .before .before .before .before .before .before .before .args .text .now in
     let k = c .before .before .enum-told .given .0 .0 in
-    policy-refused (length t)
+    part-refused (policyCounts (c .before .before .before .before .before .before .before .before .before .args .counts)) (length t)
     (policyPart (unpack formEntry n (c .before .before .before .before .before .before .before .before .before .args .forms .now)) t)
     (refusalIs k (clausesAt n))
     (clauses-stopped (c .before .before .before .before .before .before .before .before .before .args .forms .now) n t k
     (sym (c .before .before .before .before .count-line .ensures) ∙ c .before .before .enum-told .given .1))
-    (c .number-refused .result) (c .number-refused .ensures ∙ (λ j. refusalIs (numberRefusal (c .before .before .enum-told .given .1 j)) (c .before .clauses-at .ensures j)))
+    (Part.Refused (c .number-refused .result)) (ap Part.Refused (c .number-refused .ensures ∙ (λ j. refusalIs (numberRefusal (c .before .before .enum-told .given .1 j)) (c .before .clauses-at .ensures j))))
 
 rest-of-requires : tie.Need-rest-of-requires
 rest-of-requires c κs = search needs
@@ -107,13 +108,13 @@ returns-2 : tie.Need-returns-2
 returns-2 c =
     let t = c .before .before .before .before .before .before .before .before .before .before .before .before .before .before .before .before .before .before .args .text .now in
     let x = c .before .enum-told2 .given .0 .0 in
-    policy-refused (length t)
+    part-refused (policyCounts (c .before .before .before .before .before .before .before .before .before .before .before .before .before .before .before .before .before .before .args .counts)) (length t)
     (policyPart (unpack formEntry
-    (c .before .before .before .before .before .before .before .before .before .before .before .before .before .before .before .before .before .before .args .formulas)
+    (c .before .before .before .before .before .before .before .before .before .before .before .before .before .before .before .before .before .before .args .counts .formulas)
     (c .before .before .before .before .before .before .before .before .before .before .before .before .before .before .before .before .before .before .args .forms .now)) t) x
     (lines-stopped (clauses (c .before .before .before .before .before .before .before .before)) x
     (sym (c .before .before .before .before .before .read-clauses .ensures .0) ∙ c .before .enum-told2 .given .1))
-    (c .section-refused .result) (c .section-refused .ensures ∙ ap sectionRefused (c .before .enum-told2 .given .1))
+    (Part.Refused (c .section-refused .result)) (ap Part.Refused (c .section-refused .ensures ∙ ap sectionRefused (c .before .enum-told2 .given .1)))
 
 sub-third : tie.Need-sub-third
 sub-third c = lines-place (clauses (c .before .before .before .before .before .before .before .before)) (policy (c .before))
@@ -145,17 +146,17 @@ same-length-2 c = search needs
 returns-3 : tie.Need-returns-3
 returns-3 c =
     let t = c .before .before .before .before .before .before .before .before .before .before .before .before .before .before .before .before .before .before .before .before .before .before .before .before .before .args .text .now in
-    let n = c .before .before .before .before .before .before .before .before .before .before .before .before .before .before .before .before .before .before .before .before .before .before .before .before .before .args .formulas in
+    let n = c .before .before .before .before .before .before .before .before .before .before .before .before .before .before .before .before .before .before .before .before .before .before .before .before .before .args .counts .formulas in
     let place = goalAt n (c .before .before .before .before .before .before .before .before .before .before .before .before .before .before .before .before .before .before .count .given .0 .0) in
     let k = c .before .before .enum-told3 .given .0 .0 in
-    policy-refused (length t)
+    part-refused (policyCounts (c .before .before .before .before .before .before .before .before .before .before .before .before .before .before .before .before .before .before .before .before .before .before .before .before .before .args .counts)) (length t)
     (policyPart (unpack formEntry n
     (c .before .before .before .before .before .before .before .before .before .before .before .before .before .before .before .before .before .before .before .before .before .before .before .before .before .args .forms .now)) t)
     (refusalIs k place)
     (goal-stopped (clauses (c .before .before .before .before .before .before .before .before .before .before .before .before .before .before .before))
     (policy (c .before .before .before .before .before .before .before .before)) k
     (sym (c .before .before .before .before .goal-line .ensures) ∙ c .before .before .enum-told3 .given .1))
-    (c .number-refused2 .result) (c .number-refused2 .ensures ∙ (λ j. refusalIs (numberRefusal (c .before .before .enum-told3 .given .1 j)) (c .before .goal-at .ensures j)))
+    (Part.Refused (c .number-refused2 .result)) (ap Part.Refused (c .number-refused2 .ensures ∙ (λ j. refusalIs (numberRefusal (c .before .before .enum-told3 .given .1 j)) (c .before .goal-at .ensures j))))
 
 rest-of-requires-2 : tie.Need-rest-of-requires-2
 rest-of-requires-2 c κs = search needs
@@ -176,7 +177,7 @@ returns-4 c =
     (c .before .before .before .before .before .before .before .before .before .before .before .before .before .before .before))
     (policy (c .before .before .before .before .before .before .before .before)) (c .before .before .last .given .0 .0) (c .rest-of2 .result .now)
     (c .rest-of2 .ensures)
-    (sym (c .before .before .before .before .goal-line .ensures) ∙ c .before .before .last .given .1)
+    (sym (c .before .before .before .before .goal-line .ensures) ∙ c .before .before .last .given .1) (c .before .before .before .before .before .before .before .before .before .before .before .before .before .before .before .before .before .before .before .before .before .before .before .before .before .args .counts)
 
 pub read-policy-spec : {M : Type 1} → statement M
 read-policy-spec =

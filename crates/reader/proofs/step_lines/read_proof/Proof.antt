@@ -8,19 +8,20 @@ use Rattle.scope.specs.Limits.{mostSteps, stepsAt}
 use Rattle.scope.specs.Call.Tables.{stepEntry}
 use Rattle.lines.specs.Parts.{valueOf}
 use Rattle.reader.specs.Sections.{stepsPart}
-use Rattle.reader.specs.Answers.{refusalIs, numberRefusal, sectionRefused}
+use Rattle.reader.specs.Answers.{stepsCounts, refusalIs, numberRefusal, sectionRefused}
 use Rattle.reader.specs.Lines.{count-most}
-use Rattle.reader.specs.Got.{Section-kept, steps-refused}
+use Rattle.reader.specs.Got.{Section-kept, part-refused}
 use Rattle.reader.specs.Turns.{rest-short}
 use Rattle.reader.specs.Joins.{Steps-counted, rowsRead, steps-stopped, rows-stopped, rows-inside, steps-joined}
+use Rattle.reader.specs.declared.Part.the-variants as Part
 use borrow.Author.Needs.{needs}
 use native.Mathlib.Omega.{arith}
 use Rattle.reader.proofs.step_lines.read_proof.Statement.{statement}
 use Rattle.reader.proofs.step_lines.read_proof.Tie as tie
 
 -- The count and the text behind it; and the lines that were read.
-abbrev counted : (c : tie.After-rest-of) → Steps-counted (c .before .before .before .before .before .before .before .before .args .formulas)
-    (c .before .before .before .before .before .before .before .before .args .clauses)
+abbrev counted : (c : tie.After-rest-of) → Steps-counted (c .before .before .before .before .before .before .before .before .args .counts .formulas)
+    (c .before .before .before .before .before .before .before .before .args .counts .policy)
     (c .before .before .before .before .before .before .before .before .args .text .now)
 counted c =
     record {
@@ -59,15 +60,15 @@ number-refused-requires c κs = search needs
 returns : tie.Need-returns
 returns c =
     let t = c .before .before .before .before .before .before .before .before .args .text .now in
-    let place = stepsAt (c .before .before .before .before .before .before .before .before .args .formulas) (c .before .before .before .before .before .before .before .before .args .clauses) in
+    let place = stepsAt (c .before .before .before .before .before .before .before .before .args .counts .formulas) (c .before .before .before .before .before .before .before .before .args .counts .policy) in
     let k = c .before .before .enum-told .given .0 .0 in
-    steps-refused (length t)
-    (stepsPart (c .before .before .before .before .before .before .before .before .args .formulas)
-    (c .before .before .before .before .before .before .before .before .args .clauses) t) (refusalIs k place)
-    (steps-stopped (c .before .before .before .before .before .before .before .before .args .formulas)
-    (c .before .before .before .before .before .before .before .before .args .clauses) t k
+    part-refused (stepsCounts (c .before .before .before .before .before .before .before .before .args .counts)) (length t)
+    (stepsPart (c .before .before .before .before .before .before .before .before .args .counts .formulas)
+    (c .before .before .before .before .before .before .before .before .args .counts .policy) t) (refusalIs k place)
+    (steps-stopped (c .before .before .before .before .before .before .before .before .args .counts .formulas)
+    (c .before .before .before .before .before .before .before .before .args .counts .policy) t k
     (sym (c .before .before .before .before .count-line .ensures) ∙ c .before .before .enum-told .given .1))
-    (c .number-refused .result) (c .number-refused .ensures ∙ (λ j. refusalIs (numberRefusal (c .before .before .enum-told .given .1 j)) (c .before .steps-at .ensures j)))
+    (Part.Refused (c .number-refused .result)) (ap Part.Refused (c .number-refused .ensures ∙ (λ j. refusalIs (numberRefusal (c .before .before .enum-told .given .1 j)) (c .before .steps-at .ensures j))))
 
 rest-of-requires : tie.Need-rest-of-requires
 rest-of-requires c κs = search needs
@@ -98,12 +99,12 @@ returns-2 : tie.Need-returns-2
 returns-2 c =
     let t = c .before .before .before .before .before .before .before .before .before .before .before .before .before .before .before .args .text .now in
     let x = c .before .enum-told2 .given .0 .0 in
-    steps-refused (length t)
-    (stepsPart (c .before .before .before .before .before .before .before .before .before .before .before .before .before .before .before .args .formulas)
-    (c .before .before .before .before .before .before .before .before .before .before .before .before .before .before .before .args .clauses) t) x
+    part-refused (stepsCounts (c .before .before .before .before .before .before .before .before .before .before .before .before .before .before .before .args .counts)) (length t)
+    (stepsPart (c .before .before .before .before .before .before .before .before .before .before .before .before .before .before .before .args .counts .formulas)
+    (c .before .before .before .before .before .before .before .before .before .before .before .before .before .before .before .args .counts .policy) t) x
     (rows-stopped (counted (c .before .before .before .before .before .before .before)) x
     (sym (c .before .before .before .before .before .read-steps .ensures .0) ∙ c .before .enum-told2 .given .1))
-    (c .section-refused .result) (c .section-refused .ensures ∙ ap sectionRefused (c .before .enum-told2 .given .1))
+    (Part.Refused (c .section-refused .result)) (ap Part.Refused (c .section-refused .ensures ∙ ap sectionRefused (c .before .enum-told2 .given .1)))
 
 sub-before : tie.Need-sub-before
 sub-before c =
@@ -123,7 +124,7 @@ same-length-2 : tie.Need-same-length-2
 same-length-2 c = search needs
 
 returns-3 : tie.Need-returns-3
-returns-3 c = steps-joined (counted (c .before .before .before .before .before .before .before)) (rows (c .before))
+returns-3 c = steps-joined (counted (c .before .before .before .before .before .before .before)) (rows (c .before)) (c .before .before .before .before .before .before .before .before .before .before .before .before .before .before .before .args .counts)
 
 pub read-proof-spec : {M : Type 1} → statement M
 read-proof-spec =
