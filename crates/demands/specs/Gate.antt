@@ -17,7 +17,7 @@ use Rattle.granted.specs.Reasons.{Settled, grants}
 use native.Mathlib.Omega.{arith}
 use Rattle.trip.specs.Requests.{read-unrefused}
 use Rattle.trip.specs.Trip.{got, read-fine, fine-checked}
-use Rattle.demands.specs.Firm.{reading-firm}
+use Rattle.demands.specs.Ranges.{reading-firm}
 use Rattle.demands.specs.Judged.{steps-settled, zero-granted, steps-entail, judge-law, else-passes}
 
 -- The gate reads into tables of just the room that is asked for.

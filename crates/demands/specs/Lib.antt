@@ -1,4 +1,5 @@
 pub mod InRange
 pub mod Judged
-pub mod Firm
+pub mod Ranges
 pub mod Gate
+pub mod AnswerRanges

@@ -16,7 +16,7 @@ use Rattle.scope.specs.Call.Tables.{Lent, requestOf, lentOf, padded}
 use Rattle.scope.specs.Call.Checked.{checked}
 use Rattle.scope.specs.Call.Calls.{written, unwritten, writtenIf, writing, writtenAnswer, textIn, outputAfter, reading, outcomeAnswer, requestIn, formTableAfter, policyTableAfter, stepTableAfter, lentAfter}
 use Rattle.trip.specs.Statements.{trip-write, trip-read}
-use Rattle.demands.specs.Firm.{reading-firm}
+use Rattle.demands.specs.Ranges.{reading-firm}
 use Rattle.common.specs.declared.Counts.{Counts}
 use Rattle.checks.specs.Met.{lentWith}
 use Rattle.reader.specs.Answers.{countsOf}

@@ -1,0 +1,106 @@
+-- The numbers and places of the judge's and of the gate's answers, as document 01's table 'What comes back' has them.
+--     judge-range : judge t ≡ answer k place → ByJudging t k place
+--     gate-range : gate s ≡ prints k place n → ByGate s k place n
+-- So the gate prints no number over 12 (`gate-number`): never 13 or 14.
+use Prim.Native.Nat.{ℕ, zero, suc, _*_, _<_, _≤_}
+use mathlib.Core.Path.{_≡_, refl, _∙_}
+use mathlib.Core.Bool.{true}
+use mathlib.Core.List.{List}
+use native.Mathlib.Omega.{arith}
+use lib.ListN.{length, length-map}
+use Rattle.scope.specs.Limits.{mostFormulas, mostPolicyLines, mostSteps}
+use Rattle.scope.specs.File.Request.{Request}
+use Rattle.scope.specs.File.Reader.{refused}
+use Rattle.scope.specs.Logic.Obligation.{stepOf}
+use Rattle.scope.specs.Logic.Room.{within}
+use Rattle.scope.specs.Call.Answer.{Answer, answer}
+use Rattle.scope.specs.Call.Tables.{Lent, stepEntry, hasRoom, requestOf}
+use Rattle.scope.specs.Call.Judge.{stepsOf, startOf, judge, Printed, prints, gate}
+use Rattle.scope.specs.Tools.Unpack.{unpack-length}
+use Rattle.granted.specs.Reasons.{Settled, grants, breaks}
+use Rattle.granted.specs.FirstBreak.{break-range}
+use Rattle.trip.specs.Places.{Where}
+use Rattle.demands.specs.Judged.{Answers, by-tables, by-steps, judge-allowed}
+use Rattle.demands.specs.Ranges as Range
+use Rattle.demands.specs.Ranges.{ByReading, ByChecks, reading-range, where-number, with-room, checked-range}
+use Rattle.demands.specs.Gate.{gateReads, Prints, unread, answered, gate-prints}
+
+-- An answer about steps, n of them: granted at place 0, or 7 to 12 at a step or behind the last.
+pub data BySteps (n k place : ℕ) : Type 0 where
+  granted : k ≡ 0 → place ≡ 0 → BySteps n k place
+  at-step : 7 ≤ k → k ≤ 12 → 0 < place → place ≤ suc n → BySteps n k place
+
+-- Of the judge: a refusal of the tables, or an answer about their steps.
+pub data ByJudging (t : Lent) (k place : ℕ) : Type 0 where
+  by-checks : ByChecks k place → ByJudging t k place
+  about-steps : BySteps (t .steps) k place → ByJudging t k place
+
+-- Of the gate: 1 at place 0 or 2 to 6 at a line, with no steps read; or an answer about the steps read.
+pub data ByGate (s : List ℕ) (k place n : ℕ) : Type 0 where
+  too-long : k ≡ 1 → place ≡ 0 → n ≡ 0 → ByGate s k place n
+  at-line : Where s k place → n ≡ 0 → ByGate s k place n
+  about-steps : BySteps n k place → ByGate s k place n
+
+step-count : (q : Request) → length (stepsOf q) ≡ length (q .steps)
+unfolding stepsOf
+step-count q = length-map (q .steps) stepOf
+
+settled-range : (q : Request) (a : Answer) (k place : ℕ) → Settled within (startOf q) (stepsOf q) a → a ≡ answer k place →
+    BySteps (length (q .steps)) k place
+settled-range q a k place (grants d) e = granted (cc) (cc)
+settled-range q a k place (breaks {k = n} {place = p} b) e =
+    let z : n ≡ k = cc in
+    let y : p ≡ place = cc in
+    let h = break-range b in
+    let c = step-count q in
+    at-step (omega arith) (omega arith) (omega arith) (omega arith)
+
+table-count : (t : Lent) → length (requestOf t .steps) ≡ t .steps
+unfolding requestOf
+table-count t = unpack-length stepEntry (t .steps) (t .stepTable)
+
+allowed-range : (t : Lent) (a : Answer) (k place : ℕ) → Answers t a → a ≡ answer k place → ByJudging t k place
+allowed-range t (answer (suc n) p) k place (by-tables c) e =
+    let z : suc n ≡ k = cc in
+    let y : p ≡ place = cc in
+    by-checks (rw (z, y) at (checked-range t n p c))
+allowed-range t a k place (by-steps c s) e = about-steps (rw (table-count t) at (settled-range (requestOf t) a k place s e))
+
+pub judge-range : (t : Lent) (k place : ℕ) → judge t ≡ answer k place → ByJudging t k place
+judge-range t k place e = allowed-range t (judge t) k place (judge-allowed t) e
+
+gate-room : hasRoom (3 * mostFormulas) mostPolicyLines (2 * mostSteps) ≡ true
+unfolding hasRoom
+gate-room = refl
+
+prints-range : (s : List ℕ) (p : Printed) (k place n : ℕ) → Prints s p → p ≡ prints k place n → ByGate s k place n
+prints-range s (prints j i zero) k place n (unread d) e =
+    let z : j ≡ k = cc in
+    let y : i ≡ place = cc in
+    let x : 0 ≡ n = cc in
+    rw (z, y, x) at (go (reading-range (3 * mostFormulas) mostPolicyLines (2 * mostSteps) s j i d))
+  where
+    go : ByReading s j i → ByGate s j i 0
+    go (Range.no-room c q) = absurd (with-room (3 * mostFormulas) mostPolicyLines (2 * mostSteps) s j i gate-room d c)
+    go (Range.too-long c q) = too-long c q refl
+    go (Range.at-line w) = at-line w refl
+prints-range s p k place n (answered {q = q} {k = j} {place = i} d f) e =
+    let z : j ≡ k = cc in
+    let y : i ≡ place = cc in
+    let x : length (q .steps) ≡ n = cc in
+    about-steps (rw (z, y, x) at (settled-range q (answer j i) j i f refl))
+
+pub gate-range : (s : List ℕ) (k place n : ℕ) → gate s ≡ prints k place n → ByGate s k place n
+gate-range s k place n e = prints-range s (gate s) k place n (gate-prints s) e
+
+steps-number : {n k place : ℕ} → BySteps n k place → k ≤ 12
+steps-number (granted e p) = omega arith
+steps-number (at-step a b c d) = b
+
+by-gate-number : {s : List ℕ} {k place n : ℕ} → ByGate s k place n → k ≤ 12
+by-gate-number (too-long e p c) = omega arith
+by-gate-number (at-line w c) = omega (arith, where-number w)
+by-gate-number (about-steps a) = steps-number a
+
+pub gate-number : (s : List ℕ) (k place n : ℕ) → gate s ≡ prints k place n → k ≤ 12
+gate-number s k place n e = by-gate-number (gate-range s k place n e)

@@ -1,0 +1,178 @@
+-- The numbers and places of refusals before the steps, as document 01's table 'What comes back' has them.
+--     reading-range : reading forms lines steps s ≡ refused (answer k place) → ByReading s k place
+--     checked-range : checked t ≡ answer (suc k) place → ByChecks (suc k) place
+--     writing-range : writing t len ≡ unwritten (answer k place) → ByWriting k place
+-- So reading refuses 1 to 6 or 13 (`read-number`), and no refusal has number 0 (`reading-firm`).
+use Prim.Native.Nat.{ℕ, zero, suc, _<_, _≤_}
+use mathlib.Core.Path.{_≡_, refl}
+use mathlib.Core.Bool.{Bool, true, false, cond}
+use mathlib.Core.List.{List, [], _∷_, _++_}
+use mathlib.Core.Logic.{_⊎_, inl, inr}
+use native.Mathlib.Omega.{arith}
+use lib.Dec.{leb}
+use lib.ListN.{length}
+use Rattle.scope.specs.File.Request.{Request}
+use Rattle.scope.specs.File.Refusals.{demand, formRefusal, clauseRefusal, stepRefusal}
+use Rattle.scope.specs.File.Reader.{refused, readRequest}
+use Rattle.scope.specs.File.Text.{requestText}
+use Rattle.scope.specs.Limits.{mostBytes, mostPrincipals, mostAtoms, mostFormulas, mostPolicyLines, mostSteps, formAt, clauseAt, stepAt}
+use Rattle.scope.specs.Call.Answer.{Answer, answer}
+use Rattle.scope.specs.Call.Tables.{Lent, hasRoom, requestOf}
+use Rattle.scope.specs.Call.Checked.{firstMet, eachOf, lineAnswers, pastZero, checked}
+use Rattle.scope.specs.Call.Calls.{reading, written, unwritten, writtenIf, writing}
+use Rattle.scope.specs.Tools.Tests.{never}
+use Rattle.trip.specs.LineRefusals.{InShape, range, later, class, OfLine, shape, in-shape, Mild, count-mild, form-mild, clause-mild, goal-mild, step-mild}
+use Rattle.trip.specs.Places.{Where, of-line, of-rest, refused-where}
+
+-- Of reading: 13 and 1 at place 0; 2 to 5 at the line that met it, and 6 at the line behind the last (`Where`).
+pub data ByReading (s : List ℕ) (k place : ℕ) : Type 0 where
+  no-room : k ≡ 13 → place ≡ 0 → ByReading s k place
+  too-long : k ≡ 1 → place ≡ 0 → ByReading s k place
+  at-line : Where s k place → ByReading s k place
+
+-- Of lent tables: 13 at place 0; 3, 4 or 5 at a line; 3 at place 0.
+pub data ByChecks (k place : ℕ) : Type 0 where
+  no-room : k ≡ 13 → place ≡ 0 → ByChecks k place
+  at-line : InShape k → 0 < place → ByChecks k place
+  past-counts : k ≡ 3 → place ≡ 0 → ByChecks k place
+
+-- Of writing: those, or 14 at place 0.
+pub data ByWriting (k place : ℕ) : Type 0 where
+  by-checks : ByChecks k place → ByWriting k place
+  no-output : k ≡ 14 → place ≡ 0 → ByWriting k place
+
+-- Reading.
+pub reading-range : (forms lines steps : ℕ) (s : List ℕ) (k place : ℕ) → reading forms lines steps s ≡ refused (answer k place) → ByReading s k place
+unfolding reading
+reading-range f l n s k place e = go (hasRoom f l n) (leb (length s) mostBytes) e
+  where
+    go : (a b : Bool) → cond a (cond b (readRequest s) (refused (answer 1 0))) (refused (answer 13 0)) ≡ refused (answer k place) → ByReading s k place
+    go true true d = at-line (refused-where s k place d)
+    go true false d = too-long (cc) (cc)
+    go false b d = no-room (cc) (cc)
+
+in-shape-number : {k : ℕ} → InShape k → (3 ≤ k) × (k ≤ 5)
+in-shape-number (range e) = omega arith
+in-shape-number (later e) = omega arith
+in-shape-number (class e) = omega arith
+
+of-line-number : {k : ℕ} → OfLine k → (2 ≤ k) × (k ≤ 5)
+of-line-number (shape e) = omega arith
+of-line-number (in-shape e) = omega (arith, in-shape-number e)
+
+pub where-number : {s : List ℕ} {k i : ℕ} → Where s k i → (2 ≤ k) × (k ≤ 6) × (0 < i)
+where-number (of-line b n d w) = omega (arith, of-line-number n, b .place)
+where-number (of-rest b q e d) = omega (arith, b .place)
+
+read-by : {s : List ℕ} {k place : ℕ} → ByReading s k place → ((1 ≤ k) × (k ≤ 6)) ⊎ (k ≡ 13)
+read-by (no-room e p) = inr e
+read-by (too-long e p) = inl (omega arith)
+read-by (at-line w) = inl (omega (arith, where-number w))
+
+pub read-number : (forms lines steps : ℕ) (s : List ℕ) (k place : ℕ) → reading forms lines steps s ≡ refused (answer k place) →
+    ((1 ≤ k) × (k ≤ 6)) ⊎ (k ≡ 13)
+read-number f l n s k place e = read-by (reading-range f l n s k place e)
+
+firm : {s : List ℕ} {k place : ℕ} → ByReading s k place → 0 < k
+firm (no-room e p) = omega arith
+firm (too-long e p) = omega arith
+firm (at-line w) = omega (arith, where-number w)
+
+-- A file that reads to nothing is never taken for granted.
+pub reading-firm : (forms lines steps : ℕ) (s : List ℕ) (k place : ℕ) → reading forms lines steps s ≡ refused (answer k place) → 0 < k
+reading-firm f l n s k place e = firm (reading-range f l n s k place e)
+
+-- Tables with room are never found too short.
+pub with-room : (forms lines steps : ℕ) (s : List ℕ) (k place : ℕ) → hasRoom forms lines steps ≡ true →
+    reading forms lines steps s ≡ refused (answer k place) → k ≡ 13 → ⊥
+unfolding reading
+with-room f l n s k place h e t = go (leb (length s) mostBytes) (rw h at e)
+  where
+    go : (b : Bool) → cond b (readRequest s) (refused (answer 1 0)) ≡ refused (answer k place) → ⊥
+    go true d = omega (arith, where-number (refused-where s k place d))
+    go false d = let z : 1 ≡ k = cc in omega arith
+
+-- The checks: the first refusal met in a list of answers is in its range, put together from the lists of a request's lines.
+record Told (list : List Answer) : Type 0 where
+  told : (k place : ℕ) → firstMet list ≡ answer (suc k) place → ByChecks (suc k) place
+
+told-none : Told []
+unfolding firstMet
+told-none = record { told = λ k place e. never cc }
+
+told-first : (n p : ℕ) (more : List Answer) → (0 < n → ByChecks n p) → Told more → Told (answer n p ∷ more)
+unfolding firstMet
+told-first zero p more h t = record { told = t .told }
+told-first (suc n) p more h t =
+    record {
+      told =
+          λ k place e.
+          let z : n ≡ k = cc in
+          let y : p ≡ place = cc in
+          rw (z, y) at (h (omega arith));
+    }
+
+told-line : (n p : ℕ) (more : List Answer) → Mild n → 0 < p → Told more → Told (answer n p ∷ more)
+told-line n p more m h t = told-first n p more (λ i. at-line (m i) h) t
+
+told-all : (xs ys : List Answer) → Told xs → Told ys → Told (xs ++ ys)
+unfolding firstMet
+told-all [] ys t u = u
+told-all (answer zero p ∷ xs) ys t u = record { told = told-all xs ys (record { told = t .told }) u .told }
+told-all (answer (suc n) p ∷ xs) ys t u = record { told = t .told }
+
+told-each : {A : Type 0} (refusal : List A → A → ℕ) (place : List A → ℕ) → ((b : List A) (x : A) → Mild (refusal b x)) →
+    ((b : List A) → 0 < place b) → (before xs : List A) → Told (eachOf (λ b x. answer (refusal b x) (place b)) before xs)
+unfolding eachOf
+told-each refusal place m h before [] = told-none
+told-each refusal place m h before (x ∷ xs) =
+    told-line (refusal before x) (place before) _ (m before x) (h before) (told-each refusal place m h (before ++ (x ∷ [])) xs)
+
+told-lines : (q : Request) → Told (lineAnswers q)
+unfolding lineAnswers
+told-lines q =
+    told-line _ _ _ (count-mild 1 mostPrincipals (q .principals)) (omega arith)
+    (told-line _ _ _ (count-mild 1 mostAtoms (q .atoms)) (omega arith)
+    (told-line _ _ _ (count-mild 1 mostFormulas (length (q .forms))) (omega arith)
+    (told-all _ _
+    (told-each (formRefusal (q .principals) (q .atoms)) (λ b. formAt (length b)) (form-mild (q .principals) (q .atoms)) (λ b. omega arith) [] (q .forms))
+    (told-line _ _ _ (count-mild 0 mostPolicyLines (length (q .policy))) (omega arith)
+    (told-all _ _
+    (told-each (λ b. clauseRefusal (q .forms)) (λ b. clauseAt (length (q .forms)) (length b)) (λ b. clause-mild (q .forms)) (λ b. omega arith) [] (q .policy))
+    (told-line _ _ _ (goal-mild (q .forms) (q .goal)) (omega arith)
+    (told-line _ _ _ (count-mild 1 mostSteps (length (q .steps))) (omega arith)
+    (told-all _ _
+    (told-each (λ b. stepRefusal) (λ b. stepAt (length (q .forms)) (length (q .policy)) (suc (length b))) (λ b. step-mild) (λ b. omega arith) [] (q .steps))
+    told-none))))))))
+
+room-asked : (t : Bool) → 0 < demand t 13 0 → ByChecks (demand t 13 0) 0
+unfolding demand
+room-asked true h = absurd (omega arith)
+room-asked false h = no-room refl refl
+
+past-asked : (t : Bool) → 0 < demand t 3 0 → ByChecks (demand t 3 0) 0
+unfolding demand
+past-asked true h = absurd (omega arith)
+past-asked false h = past-counts refl refl
+
+pub checked-range : (t : Lent) (k place : ℕ) → checked t ≡ answer (suc k) place → ByChecks (suc k) place
+unfolding checked
+checked-range t k place e =
+    told-first _ _ _ (room-asked (hasRoom (length (t .formTable)) (length (t .policyTable)) (length (t .stepTable))))
+    (told-all _ _ (told-lines (requestOf t)) (told-first _ _ _ (past-asked (pastZero t)) told-none)) .told k place e
+
+-- Writing.
+pub writing-range : (t : Lent) (len k place : ℕ) → writing t len ≡ unwritten (answer k place) → ByWriting k place
+unfolding writing writtenIf
+writing-range t len k place e = go (checked t) refl e
+  where
+    out : (fits : Bool) (s : List ℕ) → cond fits (written s) (unwritten (answer 14 0)) ≡ unwritten (answer k place) → ByWriting k place
+    out true s d = never cc
+    out false s d = no-output (cc) (cc)
+
+    go : (a : Answer) → checked t ≡ a → writtenIf a (requestText (requestOf t)) len ≡ unwritten (answer k place) → ByWriting k place
+    go (answer zero p) c d = out (leb (length (requestText (requestOf t))) len) (requestText (requestOf t)) d
+    go (answer (suc n) p) c d =
+        let z : suc n ≡ k = cc in
+        let y : p ≡ place = cc in
+        rw (z, y) at (by-checks (checked-range t n p c))
