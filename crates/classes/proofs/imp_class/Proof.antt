@@ -1,6 +1,9 @@
--- `classes::imp_class` meets its contract: each class is asked as the definition asks it.
+-- `classes::imp_class` meets its contract: each class is asked as the definition asks it. The two answers are named first, so that a byte
+-- made of others is refused for its classes.
 use borrow.Author.Needs.{needs}
-use Rattle.classes.specs.Class.{impClass}
+use mathlib.Core.Path.{_≡_}
+use Rattle.scope.specs.Logic.Form.{both}
+use Rattle.classes.specs.Class.{goalIn, clauseIn, chunkIn, impClass}
 use Rattle.classes.proofs.imp_class.Statement.{statement}
 use Rattle.classes.proofs.imp_class.Tie as tie
 
@@ -27,7 +30,14 @@ byte-of-requires c κs = search needs
 
 returns : tie.Need-returns
 unfolding impClass
-returns c = cc
+returns c =
+    let asked = c .before .before .before .before .before .before .before .args in
+    let goal : c .before .before .before .before .both-of .result ≡ both (chunkIn (asked .left)) (goalIn (asked .right)) =
+    rw (c .before .before .before .before .before .before .is-chunk .ensures, c .before .before .before .before .before .is-goal .ensures) at
+    (c .before .before .before .before .both-of .ensures) in
+    let clause : c .before .both-of2 .result ≡ both (goalIn (asked .left)) (clauseIn (asked .right)) =
+    rw (c .before .before .before .is-goal2 .ensures, c .before .before .is-clause .ensures) at (c .before .both-of2 .ensures) in
+    rw (goal, clause) at (c .byte-of .ensures)
 
 pub imp-class-spec : {M : Type 1} → statement M
 imp-class-spec =
