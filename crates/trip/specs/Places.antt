@@ -1,5 +1,6 @@
 -- The place of a reader's refusal is the line that met it. A line's number is 1 and the LFs before it; up to that line nothing is refused,
--- for the text cut off before it is short of just that line; and nothing behind that line matters (`refused-where`).
+-- for the text cut off before it is short of just that line; and nothing behind that line matters (`refused-where`). A text that reads is
+-- whole lines, as many as the request has (`read-lines`).
 use Prim.Native.Nat.{ℕ, suc}
 use mathlib.Core.Path.{_≡_, refl, sym, ap, _∙_}
 use mathlib.Core.List.{List, [], _∷_, _++_, append-nil}
@@ -87,3 +88,19 @@ refused-where s k i e = go (requestLines s) refl e
         q
         (sym y)
         (rw w refl)
+
+ended-read : (x : Read Request) (q : Request) → ended x ≡ read q → x ≡ ok q []
+unfolding ended
+ended-read (ok p []) q e = cc
+ended-read (ok p (b ∷ rest)) q e = never cc
+ended-read (bad k i) q e = never cc
+
+-- A text that reads is whole lines, and the line behind them, where nothing stands, is the one that `endAt` names.
+pub read-lines : (s : List ℕ) (q : Request) → readRequest s ≡ read q →
+    (whole s ≡ true) × (endAt (length (q .forms)) (length (q .lines)) (length (q .steps)) ≡ suc (lfs s))
+unfolding readRequest
+read-lines s q e =
+    let p = request-from .goes s q [] (ended-read (requestLines s) q e) in
+    let z : s ≡ p .gone = p .parted ∙ append-nil (p .gone) in
+    let n : lfs s ≡ lfs (p .gone) = ap lfs z in
+    (ap whole z ∙ p .lines, omega (arith, p .stands))

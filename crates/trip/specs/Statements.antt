@@ -4,11 +4,12 @@
 use Prim.Native.Nat.{ℕ, suc, _≤_}
 use mathlib.Core.Path.{_≡_, sym, _∙_}
 use mathlib.Core.List.{List}
+use mathlib.Core.Bool.{true}
 use lib.ListN.{length}
 use Rattle.scope.specs.Call.Answer.{answer}
 use Rattle.scope.specs.File.Request.{Request}
 use Rattle.scope.specs.File.Text.{requestText}
-use Rattle.scope.specs.Limits.{mostBytes}
+use Rattle.scope.specs.Limits.{mostBytes, endAt}
 use Rattle.scope.specs.File.Reader.{read, refused, readRequest}
 use Rattle.scope.specs.Call.Tables.{Lent, requestOf}
 use Rattle.scope.specs.Call.Checked.{firstMet, lineAnswers, checked}
@@ -17,7 +18,8 @@ use Rattle.trip.specs.File.{Unrefused}
 use Rattle.trip.specs.Requests.{text-reads, read-unrefused, read-text}
 use Rattle.trip.specs.Fits.{text-fits}
 use Rattle.trip.specs.Trip.{Fine, checked-fine, fine-checked, write-again, readFor, leftFor, write-then-read, read-then-write}
-use Rattle.trip.specs.Places.{Where, refused-where}
+use Rattle.trip.specs.LinePlaces.{lfs, whole}
+use Rattle.trip.specs.Places.{Where, refused-where, read-lines}
 use Rattle.trip.specs.Refused.{Sayable, lines-refused, text-checked, checked-text, text-unwritten, unwritten-text}
 
 -- A request without refusal (`Unrefused`: each line's own refusal is 0) reads back from its text.
@@ -86,3 +88,9 @@ writes-alike t len k i g = (unwritten-text t len k i g, text-unwritten t len k i
 -- that line, or for 6 reads, and whatever stands behind that line the refusal is the same.
 pub placed-right : (s : List ℕ) (k i : ℕ) → readRequest s ≡ refused (answer k i) → Where s k i
 placed-right = refused-where
+
+-- And a text that reads is whole lines, as many as the request has: the line behind them is `endAt`'s.
+pub counted-right :
+    (s : List ℕ) (q : Request) → readRequest s ≡ read q
+    → (whole s ≡ true) × (endAt (length (q .forms)) (length (q .lines)) (length (q .steps)) ≡ suc (lfs s))
+counted-right = read-lines
