@@ -19,7 +19,7 @@ unfoldable pub checkedOf : Answer → Checked
 checkedOf (answer zero place) = Fine
 checkedOf (answer (suc k) place) = Refused (answerOf (answer (suc k) place))
 
--- 'The first metIn is the answer, with no other given.'
+-- 'The first met is the answer, with no other given.'
 unfoldable pub metIn : List Answer → Checked
 metIn all = checkedOf (firstMet all)
 

@@ -1,4 +1,4 @@
--- The first metIn of several answers: what comes after a refusal does not count, and what comes after answers that are fine does.
+-- The first met of several answers: what comes after a refusal does not count, and what comes after answers that are fine does.
 use Prim.Native.Nat.{ℕ, zero, suc, _+_, _≤_, _<_}
 use native.Mathlib.Numerals.{add-one}
 use native.Mathlib.Omega.{arith}

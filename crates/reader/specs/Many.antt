@@ -1,4 +1,4 @@
--- Several lines one andThen the other: one turn of a loop over them, and the text that is left.
+-- Several lines one after the other: one turn of a loop over them, and the text that is left.
 use Prim.Native.Nat.{ℕ, zero, suc, _-_, _≤_}
 use native.Mathlib.Omega.{arith}
 use mathlib.Core.Path.{_≡_, refl, ap, sym, _∙_}

@@ -263,7 +263,7 @@ module _ (forms policy steps : ℕ) (s : List ℕ) where
   unfolding reading
   in-order e h = rw (e, le-leb (length s) mostBytes h) refl
 
--- The tables andThen a refusal, and andThen a request was read.
+-- The tables after a refusal, and after a request was read.
 module _ (len : ℕ) (o : Outcome) where
   forms-zero : (k i : ℕ) → o ≡ refused (answer k i) → replicate len 0 ≡ formTableAfter len o
   unfolding formTableAfter requestIn
@@ -289,7 +289,7 @@ module _ (len : ℕ) (o : Outcome) where
   unfolding stepTableAfter requestIn
   steps-stored q e = rw e refl
 
--- Three tables that are all zero, and what they are andThen a refusal.
+-- Three tables that are all zero, and what they are after a refusal.
 pub record Cleared (forms policy steps : ℕ) : Type 0 where
   pub formTable : List ℕ
   pub policyTable : List ℕ

@@ -55,7 +55,7 @@ module _ {A : Type 0} (n : ℕ) (r : Read (List A)) where
   unfolding sectionOf
   section-read entry len numbers xs rest e d = (rw e refl, λ ys over f. d ∙ ap (table entry len) (same-things r xs ys rest over e f))
 
--- A loop over n lines andThen i of them: the things read so far stand in the table, and what is left of the text gives the others.
+-- A loop over n lines after i of them: the things read so far stand in the table, and what is left of the text gives the others.
 pub record Turns {A : Type 0} (entry : Entry A) (item : List A → Reader A) (n : ℕ) (text : List ℕ) (len : ℕ) (numbers rest : List ℕ)
     (i : ℕ) : Type 0 where
   pub before : List A

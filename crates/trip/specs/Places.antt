@@ -93,11 +93,11 @@ ended-read : (x : Read Request) (q : Request) → ended x ≡ read q → x ≡ o
 unfolding ended
 ended-read (ok p []) q e = cc
 ended-read (ok p (b ∷ rest)) q e = never cc
-ended-read (bad k i) q e = never cc
+ended-read (bad a) q e = never cc
 
 -- A text that reads is whole lines, and the line behind them, where nothing stands, is the one that `endAt` names.
 pub read-lines : (s : List ℕ) (q : Request) → readRequest s ≡ read q →
-    (whole s ≡ true) × (endAt (length (q .forms)) (length (q .lines)) (length (q .steps)) ≡ suc (lfs s))
+    (whole s ≡ true) × (endAt (length (q .forms)) (length (q .policy)) (length (q .steps)) ≡ suc (lfs s))
 unfolding readRequest
 read-lines s q e =
     let p = request-from .goes s q [] (ended-read (requestLines s) q e) in

@@ -30,7 +30,7 @@ use Rattle.trip.specs.File.{number-shaped, row-shaped}
 use Rattle.trip.specs.Checks.{passes}
 use Rattle.trip.specs.Trip.{check-law}
 
--- What a reader gives under the first refusal metThen: the thing and the rest where none is, else that refusal.
+-- What a reader gives under the first refusal met: the thing and the rest where none is, else that refusal.
 unfoldable metThen : {A : Type 0} → Answer → A → List ℕ → Read A
 metThen (answer zero place) a rest = ok a rest
 metThen (answer (suc k) place) a rest = bad (answer (suc k) place)
@@ -61,7 +61,7 @@ done-meets : {A : Type 0} (a : A) → Meets (done a) [] [] a
 unfolding firstMet metThen
 done-meets a = record { gives = λ rest. refl }
 
--- One andThen the other: a refusal of the first is metThen before the second is read.
+-- One after the other: a refusal of the first is met before the second is read.
 seq-meets :
     {A B : Type 0} {m : Reader A} {s t : List ℕ} {xs ys : List Answer} {a : A} {b : B} (next : A → Reader B) → Meets m s xs a
     → Meets (next a) t ys b → Meets (_>>=_ m next) (s ++ t) (xs ++ ys) b
@@ -74,7 +74,7 @@ seq-meets {A} {B} {m} {s} {t} {xs} {ys} {a} {b} next p q =
     goes-on (answer zero p ∷ zs) rest = goes-on zs rest
     goes-on (answer (suc k) p ∷ zs) rest = refl
 
--- What is put together from a thing meets what the thing metThen.
+-- What is put together from a thing meets what the thing met.
 then-meets :
     {A B : Type 0} (f : A → B) {m : Reader A} {s : List ℕ} {xs : List Answer} {a : A} → Meets m s xs a
     → Meets (_>>=_ m (λ x. done (f x))) s xs (f a)
@@ -177,7 +177,7 @@ pub record Sayable (t : Lent) : Type 0 where
   pub room : hasRoom (length (t .formTable)) (length (t .policyTable)) (length (t .stepTable)) ≡ true
   pub in-shape : InShape (requestOf t)
 
--- What is metThen in a list is metThen in a longer one; and what is metThen at a line is not metThen in a last answer at place 0.
+-- What is met in a list is met in a longer one; and what is met at a line is not met in a last answer at place 0.
 met-longer : (k i : ℕ) (xs ys : List Answer) → firstMet xs ≡ answer (suc k) i → firstMet (xs ++ ys) ≡ answer (suc k) i
 unfolding firstMet
 met-longer k i [] ys e = never cc

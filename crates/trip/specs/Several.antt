@@ -1,4 +1,4 @@
--- Readers one andThen the other, several of one kind, and a count with that many: each keeps the laws of `Reads`.
+-- Readers one after the other, several of one kind, and a count with that many: each keeps the laws of `Reads`.
 use Prim.Native.Nat.{ℕ, zero, suc, _+_, _<_, _≤_}
 use mathlib.Core.Path.{_≡_, refl, sym, ap, _∙_}
 use mathlib.Core.List.{List, [], _∷_, _++_, append-assoc, append-nil}
@@ -26,7 +26,7 @@ pub record Two (G H : Type 0) : Type 0 where
 abbrev pub two : {G H : Type 0} → G → H → Two G H
 two g h = record { one = g; two = h }
 
--- One andThen the other: the second may go by what the first read, and `part` finds that again in the whole.
+-- One after the other: the second may go by what the first read, and `part` finds that again in the whole.
 pub seq-reads :
     {A B : Type 0} {m : Reader A} {next : A → Reader B} {first : A → List ℕ} {second : B → List ℕ} {G : A → Type 0} {H : A → B → Type 0}
     (part : B → A) → Reads m first G → ((a : A) → G a → Reads (next a) second (H a)) → ((a : A) (b : B) → G a → H a b → part b ≡ a)

@@ -92,5 +92,5 @@ placed-right = refused-where
 -- And a text that reads is whole lines, as many as the request has: the line behind them is `endAt`'s.
 pub counted-right :
     (s : List ℕ) (q : Request) → readRequest s ≡ read q
-    → (whole s ≡ true) × (endAt (length (q .forms)) (length (q .lines)) (length (q .steps)) ≡ suc (lfs s))
+    → (whole s ≡ true) × (endAt (length (q .forms)) (length (q .policy)) (length (q .steps)) ≡ suc (lfs s))
 counted-right = read-lines

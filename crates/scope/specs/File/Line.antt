@@ -1,4 +1,4 @@
--- 'ASCII lines `key=value`, each ended by LF': one line, several lines, one andThen the other.
+-- 'ASCII lines `key=value`, each ended by LF': one line, several lines, one after the other.
 use Prim.Native.Nat.{ℕ, zero, suc}
 use mathlib.Core.List.{List, [], _∷_, _++_, map}
 use mathlib.Core.Bool.{cond}
@@ -31,7 +31,7 @@ pub data Read (A : Type 0) : Type 0 where
 abbrev pub Reader : Type 0 → Type 0
 Reader A = List ℕ → Read A
 
--- What stands before and andThen the first byte b.
+-- What stands before and after the first byte b.
 pub data Cut : Type 0 where
   parts : List ℕ → List ℕ → Cut
   uncut : Cut
@@ -84,7 +84,7 @@ line l refusal i s = lineOf l refusal i (cut 10 s)
 unfoldable pub lineText : {A : Type 0} → Line A → A → List ℕ
 lineText l a = l .key ++ l .shape .text a ++ 10 ∷ []
 
--- One andThen the other: the second is read from where the first ends. The first refusal met is the answer.
+-- One after the other: the second is read from where the first ends. The first refusal met is the answer.
 unfoldable pub andThen : {A B : Type 0} → Read A → (A → Reader B) → Read B
 andThen (ok a rest) next = next a rest
 andThen (bad a) next = bad a
