@@ -8,16 +8,16 @@ use native.Mathlib.Nat.{eq-or-lt-of-le}
 use Rattle.scope.specs.Logic.Facts.{Fact, le, by, sf, Sheet, grown, Rules}
 use Rattle.facts.specs.Kept.{Proper, Way, stop, up-le, up-by, way-from}
 
--- Along a way sf facts go on (rules 4 and 5), and S facts from its end are S facts from its beginning (rules 6 and 9).
+-- Along a way sf facts go on (rules 4 and 5), and S facts from its end to a world are S facts from its beginning (rules 6 and 9).
 pub way-sf : {sh : Sheet} {H : Fact → Type 0} {x y a b : ℕ} → Rules sh H → Way sh H x y → H (sf x a b) → H (sf y a b)
 way-sf R (stop h) q = q
 way-sf {a = a} {b = b} R (up-le {x} {y} p w) q = way-sf R w (R .rule5 x y a b p q)
 way-sf {a = a} {b = b} R (up-by {a = c} {x} {y} p w) q = way-sf R w (R .rule4 x y a b c p q)
 
-pub way-by : {sh : Sheet} {H : Fact → Type 0} {x y z a : ℕ} → Rules sh H → Way sh H x y → H (by a y z) → H (by a x z)
-way-by R (stop h) q = q
-way-by {z = z′} {a = a} R (up-le {x} {y} p w) q = R .rule6 x y z′ a p (way-by R w q)
-way-by {z = z′} {a = a} R (up-by {a = b} {x} {y} p w) q = R .rule9 x y z′ a b p (way-by R w q)
+pub way-by : {sh : Sheet} {H : Fact → Type 0} {x y z a : ℕ} → Rules sh H → z < sh .worlds → Way sh H x y → H (by a y z) → H (by a x z)
+way-by R g (stop h) q = q
+way-by {z = z′} {a = a} R g (up-le {x} {y} p w) q = R .rule6 x y z′ z′ a p (way-by R g w q) (R .rule7 z′ g)
+way-by {z = z′} {a = a} R g (up-by {a = b} {x} {y} p w) q = R .rule9 x y z′ a b p (way-by R g w q)
 
 -- A way stays one among more worlds and facts, and goes on by another way.
 pub way-more : {sh th : Sheet} {H G : Fact → Type 0} {x y : ℕ} →
@@ -40,6 +40,7 @@ pub record Leads (sh : Sheet) (u : ℕ) (H : Fact → Type 0) (Less : ℕ → Ty
   pub le-sees : (a x y : ℕ) → H (le x y) → Sees a y → Sees a x
   pub le-less : (x y : ℕ) → H (le x y) → Less y → Less x
   pub by-sees : (a b x y : ℕ) → H (by b x y) → Sees a y → Sees a x
+  pub by-less : (a x y : ℕ) → H (by a x y) → Less y → Sees a x
 
 -- The old facts and those that lead to the new world n.
 pub data New (sh : Sheet) (u : ℕ) (H : Fact → Type 0) (Less : ℕ → Type 0) (Sees : ℕ → ℕ → Type 0) : Fact → Type 0 where
@@ -106,13 +107,18 @@ module _ (sh : Sheet) (u : ℕ) (H : Fact → Type 0) (Less : ℕ → Type 0) (S
   new5 x v a b (less e l) (old q) = like e (way-sf R (L .less-way x l) q)
   new5 x v a b (less e l) (like d q) = absurd (omega (arith, less-low x l))
 
-  new6 : (x y w a : ℕ) → N (le x y) → N (by a y w) → N (by a x w)
-  new6 x y w a (old p) (old q) = old (R .rule6 x y w a p q)
-  new6 x y w a (old p) (sees e s) = sees e (L .le-sees a x y p s)
-  new6 x y w a (self d e) (old q) = absurd (omega (arith, by-low q))
-  new6 x y w a (self d e) (sees c s) = absurd (omega (arith, sees-low a y s))
-  new6 x y w a (less e l) (old q) = absurd (omega (arith, by-low q))
-  new6 x y w a (less e l) (sees c s) = absurd (omega (arith, sees-low a y s))
+  new6 : (x y w z a : ℕ) → N (le x y) → N (by a y w) → N (le w z) → N (by a x z)
+  new6 x y w z a (old p) (old q) (old r) = old (R .rule6 x y w z a p q r)
+  new6 x y w z a (old p) (old q) (self d e) = absurd (omega (arith, by-low q))
+  new6 x y w z a (old p) (old q) (less e l) =
+      let low : w < sh .worlds = less-low w l in sees e (L .by-less a x w (R .rule6 x y w w a p q (R .rule7 w low)) l)
+  new6 x y w z a (old p) (sees e s) (old r) = absurd (omega (arith, le-low r))
+  new6 x y w z a (old p) (sees e s) (self d f) = sees f (L .le-sees a x y p s)
+  new6 x y w z a (old p) (sees e s) (less d l) = absurd (omega (arith, less-low w l))
+  new6 x y w z a (self d e) (old q) r = absurd (omega (arith, by-low q))
+  new6 x y w z a (self d e) (sees c s) r = absurd (omega (arith, sees-low a y s))
+  new6 x y w z a (less e l) (old q) r = absurd (omega (arith, by-low q))
+  new6 x y w z a (less e l) (sees c s) r = absurd (omega (arith, sees-low a y s))
 
   new7 : (x : ℕ) → x < suc (sh .worlds) → N (le x x)
   new7 x h = ⊎-elim (λ e. self e e) (λ l. old (R .rule7 x l)) (eq-or-lt-of-le {n = x} {m = sh .worlds} (omega arith))
@@ -226,7 +232,7 @@ module _ (sh : Sheet) (m a b : ℕ) (newest : sh .worlds ≡ suc m) (H : Fact �
         rule3 = noted3;
         rule4 = noted4;
         rule5 = noted5;
-        rule6 = λ x y w c p q. kept (R .rule6 x y w c (old-le x y p) (old-by c y w q));
+        rule6 = λ x y w z c p q r. kept (R .rule6 x y w z c (old-le x y p) (old-by c y w q) (old-le w z r));
         rule7 = λ x h. kept (R .rule7 x h);
         rule8 = λ x y w p q. kept (R .rule8 x y w (old-le x y p) (old-le y w q));
         rule9 = λ x y w c d p q. kept (R .rule9 x y w c d (old-by d x y p) (old-by c y w q));

@@ -7,9 +7,9 @@ use mathlib.Core.Path.{_≡_, refl}
 use mathlib.Core.List.{List, [], _∷_}
 use mathlib.Core.Logic.{_↔_}
 use native.Mathlib.Omega.{arith}
-use Rattle.scope.specs.Logic.Facts.{Fact, le, by, sf, Sheet, grown, Closed, Among}
+use Rattle.scope.specs.Logic.Facts.{Fact, le, by, sf, Sheet, grown, Closed, Basis}
 use Rattle.facts.specs.Rows.{worldsMax, principalsMax, told, sfRows, putSf, rootRows, grownLe, grownBy, noted}
-use Rattle.facts.specs.Kept.{Aimed, Kept, Agree, agree-self, agree-then, agree-put, kept-back}
+use Rattle.facts.specs.Kept.{Aimed, Kept, basis-among, Agree, agree-self, agree-then, agree-put, kept-back}
 use Rattle.facts.specs.Grown.{kept-le, kept-by, agree-le, agree-by}
 use Rattle.facts.specs.Noted.{kept-note, agree-note}
 use Rattle.facts.specs.Root.{kept-root}
@@ -56,11 +56,14 @@ built-kept (new-note b newest g h) = kept-note (built-kept b) newest g h
 built-kept (return b newest s) = kept-back (built-kept b) newest (branch-agree s)
 
 pub built-exact : {sh : Sheet} {fs : List Fact} {r : List ℕ} → Built sh fs r →
-    (f : Fact) → Aimed sh f → (told r f ≡ true) ↔ Closed sh (Among fs) f
-built-exact b f h = (built-kept b .right f h, built-kept b .whole f)
+    (f : Fact) → Aimed sh f → (told r f ≡ true) ↔ Closed sh (Basis sh fs) f
+built-exact b f h =
+    let K = built-kept b in
+    let own = basis-among (K .made) in
+    (λ t. own .0 (K .right f h t), λ c. K .whole f (own .1 c))
 
 pub gone : {sh : Sheet} {m : ℕ} {fs : List Fact} {r s : List ℕ} → Built sh fs r → sh .worlds ≡ suc m → Branch m r s →
-    (f : Fact) → Aimed sh f → (Closed sh (Among fs) f → ⊥) → told (putSf s m (sfRows r m)) f ≡ false
+    (f : Fact) → Aimed sh f → (Closed sh (Basis sh fs) f → ⊥) → told (putSf s m (sfRows r m)) f ≡ false
 gone {m} {r = r} {s = s} b newest c f h none = go (told (putSf s m (sfRows r m)) f) refl
   where
     go : (t : Bool) → told (putSf s m (sfRows r m)) f ≡ t → t ≡ false

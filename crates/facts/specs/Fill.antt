@@ -64,6 +64,14 @@ fill-at f at (suc k) r c h l = go (fill-at f at k r c) (eq-or-lt-of-le {n = c} {
         let other : at + c ≡ at + k → ⊥ = λ e. omega arith in
         getD-set-other (fill f at k r) (at + k) (at + c) (f k) 0 other ∙ rest j (omega arith))
 
+-- Entries that are the same make the same list.
+pub fill-same : (f g : ℕ → ℕ) (at k : ℕ) (r : List ℕ) → ((i : ℕ) → i < k → f i ≡ g i) → fill f at k r ≡ fill g at k r
+unfolding fill
+fill-same f g at zero r h = refl
+fill-same f g at (suc k) r h =
+    let last : k < suc k = omega arith in
+    rw (fill-same f g at k r (λ i l. h i (omega arith)), h k last) refl
+
 -- Two numbers, compared.
 pub below-or-past : (i n : ℕ) → (i < n) ⊎ (n ≤ i)
 below-or-past i n = go (ltb i n) refl

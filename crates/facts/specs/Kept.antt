@@ -9,7 +9,7 @@ use native.Mathlib.Omega.{arith}
 use native.Mathlib.Nat.{zero-add}
 use lib.ListN.{length, getD, replicate, length-replicate}
 use borrow.Author.Tests.{lt-ltb}
-use Rattle.scope.specs.Logic.Facts.{Fact, le, by, sf, Sheet, Closed, Among, least}
+use Rattle.scope.specs.Logic.Facts.{Fact, le, by, sf, Sheet, Closed, given, Among, Named, Basis, basis, closed, least}
 use Rattle.facts.specs.Fill.{fill, length-fill, fill-before, fill-at, below-or-past}
 use Rattle.facts.specs.Rows.{worldsMax, principalsMax, rowsEach, rowsMax, leAt, upAt, byAt, sfAt, bitOf, byRow, sfRow, told, sfRows, backRow, putSf, speaksIn}
 
@@ -55,7 +55,7 @@ proper {sh} b c =
       rule3 = λ u a b c p q. (p .0, p .1, q .2);
       rule4 = λ u v a b c p q. (p .2, q .1, q .2);
       rule5 = λ u v a b p q. (p .1, q .1, q .2);
-      rule6 = λ u v w a p q. (q .0, omega arith, q .2);
+      rule6 = λ u v w z a p q r. (q .0, omega arith, r .1);
       rule7 = λ u p. (omega arith, p);
       rule8 = λ u v w p q. (omega arith, q .1);
       rule9 = λ u v w a b p q. (q .0, omega arith, q .2);
@@ -67,6 +67,20 @@ pub aimed : (sh : Sheet) (f : Fact) → Proper sh f → Aimed sh f
 aimed sh (le u v) p = p .1
 aimed sh (by a u v) p = (p .0, p .2)
 aimed sh (sf u a b) p = p
+
+-- and so are the facts of a list, where all of them are proper: it is its own basis.
+named : (sh : Sheet) (f : Fact) → Proper sh f → Named sh f
+named sh (le u v) p = (omega arith, p .1)
+named sh (by a u v) p = (p .0, omega arith, p .2)
+named sh (sf u a b) p = p
+
+pub basis-among : {sh : Sheet} {fs : List Fact} {f : Fact} → ((g : Fact) → Among fs g → Proper sh g) →
+    Closed sh (Among fs) f ↔ Closed sh (Basis sh fs) f
+basis-among {sh} {fs} {f} made =
+    (least (closed sh (Basis sh fs)) (λ g i. given (basis i (named sh g (made g i)))), least (closed sh (Among fs)) (λ g b. given (among b)))
+  where
+    among : {g : Fact} → Basis sh fs g → Among fs g
+    among (basis i n) = i
 
 -- A way of proper facts keeps to the worlds.
 pub way-from : {sh : Sheet} {H : Fact → Type 0} {x y : ℕ} → ((g : Fact) → H g → Proper sh g) → Way sh H x y → x < sh .worlds

@@ -89,16 +89,16 @@ unfolding putSf sfRows
 newWorld r u n less ways =
     putSf (set (set r (leAt n) (bitOr less (oneBit n))) (upAt n) (bitOr ways (oneBit n))) n (sfRows r u)
 
--- Behind u by u ≤ n: what is ≤ u is ≤ n, what leads to u leads to n (`leadRow`), and no S fact leads to n (`unseenRow`).
+-- Behind u by u ≤ n: what is ≤ u is ≤ n, what leads to u leads to n (`leadRow`), and what S leads to u it leads to n (`overRow`).
 abbrev pub leadRow : List ℕ → ℕ → ℕ
 leadRow r u = getD r (upAt u) 0
 
-abbrev pub unseenRow : List ℕ → ℕ → ℕ → ℕ
-unseenRow r u c = 0
+abbrev pub overRow : List ℕ → ℕ → ℕ → ℕ
+overRow r u c = getD r (byAt u + c) 0
 
 unfoldable pub grownLe : List ℕ → ℕ → ℕ → List ℕ
 unfolding newWorld
-grownLe r u n = fill (unseenRow r u) (byAt n) principalsMax (newWorld r u n (getD r (leAt u) 0) (leadRow r u))
+grownLe r u n = fill (overRow r u) (byAt n) principalsMax (newWorld r u n (getD r (leAt u) 0) (leadRow r u))
 
 -- Behind u by u S_a n: only n ≤ n; of principal c with u: c sf a, S leads to n from u and all before it.
 abbrev pub seenRow : List ℕ → ℕ → ℕ → ℕ → ℕ

@@ -180,16 +180,18 @@ fn new_world(rows: &mut [Row; ROWS], u: World, n: World, less: Row, ways: Row)
     put_sf(rows, n, saved);
 }
 
-// A new world n behind u by u ≤ n.
+// A new world n behind u by u ≤ n: what S leads to u it leads to n.
 pub fn grow_le(rows: &mut [Row; ROWS], u: World, n: World)
     ensures { λ _. ⌜ now (rows .exit) ≡ grownLe (now (rows .entry)) (u .0) (n .0) ⌝ }
 {
     let less = get_row(rows, place_of(u, LE));
     let ways = get_row(rows, place_of(u, UP));
     new_world(rows, u, n, less, ways);
+    let from = place_of(u, BY);
     let at = place_of(n, BY);
     for c in 0..PRINCIPALS {
-        put_row(rows, at + c, 0);
+        let row = get_row(rows, from + c);
+        put_row(rows, at + c, row);
     }
 }
 

@@ -9,7 +9,7 @@ use mathlib.Core.Logic.{inl, inr, ⊎-elim, ⊎-map}
 use native.Mathlib.Omega.{arith}
 use Rattle.scope.specs.Logic.Form as F
 use Rattle.scope.specs.Logic.Form.{Form}
-use Rattle.scope.specs.Logic.Facts.{Fact, le, by, sf, Rules, Among, here, there, least}
+use Rattle.scope.specs.Logic.Facts.{Fact, le, by, sf, Sheet, Rules, Among, here, there, Basis, basis, least}
 use Rattle.scope.specs.Logic.Obligation.{lab, Sequent, withWorld, withFact, withClause, Obligation, Step}
 use Rattle.scope.specs.Logic.Derivation as D
 use Rattle.scope.specs.Logic.Derivation.{Has, Rule, Derives, DerivesAll}
@@ -22,6 +22,9 @@ use Rattle.sound.specs.Meaning.{with-world, with-fact, with-clause, meet
 all-among : (P : Fact → Type 0) {fs : List Fact} {f : Fact} → Among fs f → All P fs → P f
 all-among P here h = h .0
 all-among P (there a) h = all-among P a (h .1)
+
+basis-among : {s : Sheet} {fs : List Fact} {f : Fact} → Basis s fs f → Among fs f
+basis-among (basis i n) = i
 
 module _ (k n : ℕ) (m : Model) (fr : Frame k n m) where
   -- What holds at a world holds above it.
@@ -56,10 +59,11 @@ module _ (k n : ℕ) (m : Model) (fr : Frame k n m) where
             let f = M.by-le (r .inside v) (h .2) M.same in
             (t .0, t .1, h .1, fr .mon-sf a b (ρ u) (ρ v) (t .0) (t .1) (r .inside u) (r .inside v) f (t .3));
         rule6 =
-            λ u v w a h t.
+            λ u v w z a h t l.
             let c = t .3 in
             let e = fr .mon-S a (ρ u) (ρ v) (c .mid) (t .0) (r .inside u) (r .inside v) (c .inside) (h .2) (c .step) in
-            (t .0, h .0, t .2, again c e);
+            let f = fr .trans-le (c .mid) (ρ w) (ρ z) (c .inside) (r .inside w) (r .inside z) (c .below) (l .2) in
+            (t .0, h .0, l .1, record { mid = c .mid; inside = c .inside; step = e; below = f });
         rule7 = λ u i. (i, i, fr .refl-le (ρ u) (r .inside u));
         rule8 =
             λ u v w h t.
@@ -75,7 +79,7 @@ module _ (k n : ℕ) (m : Model) (fr : Frame k n m) where
 
   facts-hold : (s : Sequent) (ρ : ℕ → ℕ) (f : Fact) → Respects k n m s ρ → Has s f → HoldsAt k n m (s .sheet .worlds) ρ f
   facts-hold s ρ f r h =
-      least (rules-hold s ρ r) (λ g a. all-among (HoldsAt k n m (s .sheet .worlds) ρ) a (r .facts)) h
+      least (rules-hold s ρ r) (λ g b. all-among (HoldsAt k n m (s .sheet .worlds) ρ) (basis-among b) (r .facts)) h
 
   -- Each rule hands the validity of what it leaves up to what it met.
   rule-sound : {o : Obligation} {x : Step} {os : List Obligation} → Rule o x os → All (Valid k n m) os → Valid k n m o

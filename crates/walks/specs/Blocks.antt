@@ -10,15 +10,8 @@ use lib.Dec.{eqb}
 use borrow.Author.Tests.{eqb-true, eqb-false}
 use lib.ListN.{length, getD, set, replicate, length-set, length-replicate}
 use lib.Seq.{getD-set-same, getD-set-other, ext-getD}
-use Rattle.facts.specs.Fill.{fill, length-fill, fill-at, fill-before}
+use Rattle.facts.specs.Fill.{fill, length-fill, fill-at, fill-before, fill-same}
 use Rattle.machine.specs.Tables.{block, putBlock}
-
-fill-same : (f g : ℕ → ℕ) (at k : ℕ) (r : List ℕ) → ((i : ℕ) → i < k → f i ≡ g i) → fill f at k r ≡ fill g at k r
-unfolding fill
-fill-same f g at zero r h = refl
-fill-same f g at (suc k) r h =
-    let last : k < suc k = omega arith in
-    rw (fill-same f g at k r (λ i l. h i (omega arith)), h k last) refl
 
 -- A place above another begins past its entries.
 past-block : (w : ℕ) {p q : ℕ} → p < q → p * w + w ≤ q * w

@@ -16,7 +16,7 @@ use Rattle.scope.specs.Logic.Room.{within}
 use Rattle.scope.specs.Logic.Walk.{Onward, onto, refuse, need, has, onAtom, onTop, onBot, onAnd, onOr, onImp, onSays, onSf, onImpSays, onPushed}
 use Rattle.scope.specs.Tools.Tests.{never}
 use Rattle.facts.specs.Rows.{told}
-use Rattle.facts.specs.Kept.{Kept, Aimed}
+use Rattle.facts.specs.Kept.{Kept, Aimed, basis-among}
 use Rattle.moves.specs.declared.Judged.{Judged}
 use Rattle.moves.specs.declared.Judged.the-variants.{Fits, No}
 use Rattle.moves.specs.declared.Move as M
@@ -43,8 +43,8 @@ pub told-has : (T : Reading) {n : ℕ} {fs : List Fact} {rows : List ℕ} (ls : 
 unfolding has
 told-has T {n} {fs} {rows} ls f kept aimed =
     alike (told rows f) (holds (sheetOf T n) fs f)
-    (λ e. agree-full (sheetOf T n) fs f (kept .right f aimed e))
-    (λ e. kept .whole f (agree-sound (sheetOf T n) fs f e))
+    (λ e. agree-full (sheetOf T n) fs f (basis-among (kept .made) .0 (kept .right f aimed e)))
+    (λ e. kept .whole f (basis-among (kept .made) .1 (agree-sound (sheetOf T n) fs f e)))
 
 module _ {T : Reading} {s : State} {waiting : List Obligation} where
   -- The limit is tested last.

@@ -1,19 +1,21 @@
--- `facts::grow_le` meets its contract: after c turns no S fact of the first c principals leads to the new world.
+-- `facts::grow_le` meets its contract: after c turns the rows of S of the first c principals are taken over from u, as they stood before.
 use borrow.Author.Needs.{needs}
 use Rattle.facts.specs.Rows.{principalsMax}
+use Rattle.facts.specs.NewRows.{over-turn}
 use Rattle.facts.specs.Grown.{stored-le}
-use Rattle.facts.specs.Fill.{fill, fill-more}
+use Rattle.facts.specs.Fill.{fill}
+use lib.ListN.{getD}
 use mathlib.Core.Path.{_≡_, refl}
-use Prim.Native.Nat.{ℕ, _≤_, _-_}
+use Prim.Native.Nat.{ℕ, _+_, _<_, _≤_, _-_}
 use native.Mathlib.Omega.{arith}
 use Rattle.facts.proofs.grow_le.Statement.{statement}
 use Rattle.facts.proofs.grow_le.Tie as tie
 
 abbrev Inv-loop : tie.InvT-loop
-Inv-loop rows₀ less ways at c₀ rows c = (c ≤ principalsMax) × (rows ≡ fill (λ (i : ℕ). 0) at c rows₀)
+Inv-loop rows₀ less ways from at c₀ rows c = (c ≤ principalsMax) × (rows ≡ fill (λ (i : ℕ). getD rows₀ (from + i) 0) at c rows₀)
 
 abbrev μ-loop : tie.MeasureT-loop
-μ-loop rows₀ less ways at c₀ rows c = principalsMax - c
+μ-loop rows₀ less ways from at c₀ rows c = principalsMax - c
 
 place-of-requires : tie.Need-place-of-requires Inv-loop μ-loop
 place-of-requires c κs = search needs
@@ -33,9 +35,18 @@ new-world-requires c κs = search needs
 place-of-requires-3 : tie.Need-place-of-requires-3 Inv-loop μ-loop
 place-of-requires-3 c κs = search needs
 
+place-of-requires-4 : tie.Need-place-of-requires-4 Inv-loop μ-loop
+place-of-requires-4 c κs = search needs
+
 loop-holds : tie.Need-loop-holds Inv-loop μ-loop
 unfolding fill
 loop-holds c = (omega arith, refl)
+
+add-get-row : tie.Need-add-get-row Inv-loop μ-loop
+add-get-row c = omega arith
+
+get-row-requires-3 : tie.Need-get-row-requires-3 Inv-loop μ-loop
+get-row-requires-3 c κs = search needs
 
 add-put-row : tie.Need-add-put-row Inv-loop μ-loop
 add-put-row c = omega arith
@@ -50,22 +61,26 @@ loop-less : tie.Need-loop-less Inv-loop μ-loop
 loop-less c = omega arith
 
 loop-again : tie.Need-loop-again Inv-loop μ-loop
-loop-again c = (
-  omega arith,
-  fill-more _ _ _ _
-      (c .before .before .before .loop .inv .1)
-      (c .put-row .ensures)
-      refl,
-)
+loop-again c =
+    let low : c .before .before .before .before .before .before .loop .c < principalsMax = omega arith in (
+      omega arith,
+      over-turn (c .before .before .before .before .before .before .before .before .before .new-world .last .0) _ _ _ low
+          (c .before .before .before .before .before .before .before .before .place-of3 .ensures)
+          (c .before .before .before .before .before .before .before .place-of4 .ensures)
+          (c .before .before .before .before .before .before .loop .inv .1)
+          (c .before .before .get-row3 .ensures)
+          (c .put-row .ensures),
+    )
 
 returns : tie.Need-returns Inv-loop μ-loop
 returns c =
     let done : c .before .loop .c ≡ principalsMax = omega arith in
     stored-le _ _ _
-    (rw (c .before .before .before .before .before .before .before .before .before .before .place-of .ensures) at (c .before .before .before .before .before .before .before .before .before .get-row .ensures))
-    (rw (c .before .before .before .before .before .before .place-of2 .ensures) at (c .before .before .before .before .before .get-row2 .ensures))
-    (c .before .before .before .new-world .ensures)
-    (c .before .before .place-of3 .ensures)
+    (rw (c .before .before .before .before .before .before .before .before .before .before .before .place-of .ensures) at (c .before .before .before .before .before .before .before .before .before .before .get-row .ensures))
+    (rw (c .before .before .before .before .before .before .before .place-of2 .ensures) at (c .before .before .before .before .before .before .get-row2 .ensures))
+    (c .before .before .before .before .new-world .ensures)
+    (c .before .before .before .place-of3 .ensures)
+    (c .before .before .place-of4 .ensures)
     done
     (c .before .loop .inv .1)
 
@@ -81,7 +96,10 @@ grow-le-spec =
     get-row-requires-2
     new-world-requires
     place-of-requires-3
+    place-of-requires-4
     loop-holds
+    add-get-row
+    get-row-requires-3
     add-put-row
     put-row-requires
     add-c

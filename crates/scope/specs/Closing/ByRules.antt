@@ -1,15 +1,31 @@
--- `Holds` and the nine rules: what it says follows by them, and it is closed under each of them.
-use Prim.Native.Nat.{ℕ}
+-- `Holds` and the nine rules, for facts about the worlds and principals that there are: what it says follows by them, and it is closed under
+-- each of them.
+use Prim.Native.Nat.{ℕ, _<_}
 use mathlib.Core.List.{List}
 use Rattle.scope.specs.Logic.Facts as F
-use Rattle.scope.specs.Logic.Facts.{Fact, le, by, sf, Sheet, Rules, Closed, given, Among}
+use Rattle.scope.specs.Logic.Facts.{Fact, le, by, sf, Sheet, Rules, Closed, given, Among, Named}
 use Rattle.scope.specs.Logic.Held.{lesOf, linksOf, pairsAt}
 use Rattle.scope.specs.Closing.Paths.{Path, Way, stay, go, along, path-joined, way-joined, one-edge}
 use Rattle.scope.specs.Closing.Computed.{les-given, given-le, Link, link-le, link-by, links-given, le-links, by-links, Pair, pair, pairs-given, given-pair}
-use Rattle.scope.specs.Closing.Computed.{reach, below, Holds, same, up, self, speaks, sees}
+use Rattle.scope.specs.Closing.Computed.{reach, Holds, same, up, self, speaks, sees}
 
--- What `holds` says follows by the rules.
-module _ (sheet : Sheet) (fs : List Fact) where
+module _ (sheet : Sheet) (fs : List Fact) (inside : (f : Fact) → Among fs f → Named sheet f) where
+  -- The ends of what is given are worlds.
+  way-end : {u v : ℕ} → u < sheet .worlds → Way (linksOf fs) u v → v < sheet .worlds
+  way-end h stay = h
+  way-end {u} {v} h (go p) =
+      along (λ x y. y < sheet .worlds) (λ x y z r s. s) (linksOf fs) (λ x y o. end (links-given fs o)) u v p
+    where
+      end : {x y : ℕ} → Link fs x y → y < sheet .worlds
+      end {x} {y} (link-le i) = inside (le x y) i .1
+      end {x} {y} (link-by {a} i) = inside (by a x y) i .2
+
+  les-links : {u v : ℕ} → Way (lesOf fs) u v → Way (linksOf fs) u v
+  les-links stay = stay
+  les-links {u} {v} (go p) =
+      go (along (Path (linksOf fs)) (path-joined (linksOf fs)) (lesOf fs) (λ u v o. one-edge (le-links (les-given fs o))) u v p)
+
+  -- What `follows` says follows by the rules.
   abbrev Follows : Fact → Type 0
   Follows f = Closed sheet (Among fs) f
 
@@ -25,14 +41,14 @@ module _ (sheet : Sheet) (fs : List Fact) where
       by-link (link-by i) p = F.rule4 (given i) p
 
   -- and what stands at their end is seen from their start (rules 6 and 9).
-  seen : (u v : ℕ) → Way (linksOf fs) u v → (a w : ℕ) → Follows (by a v w) → Follows (by a u w)
-  seen u v stay = λ a w p. p
-  seen u v (go l) =
-      along (λ x y. (a w : ℕ) → Follows (by a y w) → Follows (by a x w)) (λ x y z r s a w p. r a w (s a w p))
-      (linksOf fs) (λ x y o a w p. by-link (links-given fs o) p) u v l
+  seen : (z : ℕ) → z < sheet .worlds → (u v : ℕ) → Way (linksOf fs) u v → (a : ℕ) → Follows (by a v z) → Follows (by a u z)
+  seen z h u v stay = λ a p. p
+  seen z h u v (go l) =
+      along (λ x y. (a : ℕ) → Follows (by a y z) → Follows (by a x z)) (λ x y z r s a p. r a (s a p))
+      (linksOf fs) (λ x y o a p. by-link (links-given fs o) p) u v l
     where
-      by-link : {x y a w : ℕ} → Link fs x y → Follows (by a y w) → Follows (by a x w)
-      by-link (link-le i) p = F.rule6 (given i) p
+      by-link : {x y a : ℕ} → Link fs x y → Follows (by a y z) → Follows (by a x z)
+      by-link (link-le i) p = F.rule6 (given i) p (F.rule7 h)
       by-link (link-by i) p = F.rule9 (given i) p
 
   pairs-follow : (u a b : ℕ) → Path (pairsAt (linksOf fs) u fs) a b → Follows (sf u a b)
@@ -43,33 +59,44 @@ module _ (sheet : Sheet) (fs : List Fact) where
       by-pair : {a b : ℕ} → Pair (linksOf fs) u a b fs → Follows (sf u a b)
       by-pair (pair {x} i w) = carries x u w _ _ (given i)
 
-  pub follows : {f : Fact} → Holds sheet fs f → Closed sheet (Among fs) f
-  follows (same l) = F.rule7 l
-  follows (up {u} {v} p) =
+  les-follow : {u v : ℕ} → u < sheet .worlds → Way (lesOf fs) u v → Follows (le u v)
+  les-follow h stay = F.rule7 h
+  les-follow {u} {v} h (go p) =
       along (λ u v. Follows (le u v)) (λ u v w r s. F.rule8 r s) (lesOf fs) (λ u v o. given (les-given fs o)) u v p
-  follows (self {u} {a} l (below {x} i w)) = carries x u w a a (F.rule1 i l)
-  follows (speaks {u} {a} {b} p) = pairs-follow u a b p
-  follows (sees {a} {u} {w} (reach {x} i s stay)) = seen u x s a w (given i)
-  follows (sees {a} {u} {w} (reach {b} {x} i s (go p))) = seen u x s a w (F.rule2 (given i) (pairs-follow x a b p))
 
--- What follows by the rules `holds` says: its facts hold the given ones and are closed under each rule.
-module _ (sheet : Sheet) (fs : List Fact) where
+  by-follow : {x a b w : ℕ} → Way (pairsAt (linksOf fs) x fs) a b → Follows (by b x w) → Follows (by a x w)
+  by-follow stay q = q
+  by-follow {x} {a} {b} (go p) q = F.rule2 q (pairs-follow x a b p)
+
+  pub by-rules : {f : Fact} → Holds sheet fs f → Closed sheet (Among fs) f
+  by-rules (same l) = F.rule7 l
+  by-rules (up {u} {v} p) =
+      along (λ u v. Follows (le u v)) (λ u v w r s. F.rule8 r s) (lesOf fs) (λ u v o. given (les-given fs o)) u v p
+  by-rules (self h l) = F.rule1 h l
+  by-rules (speaks {u} {a} {b} p) = pairs-follow u a b p
+  by-rules (sees {a} {u} {z} (reach {b} {x} {w} i s t r)) =
+      let n : (b < sheet .principals) × (x < sheet .worlds) × (w < sheet .worlds) = inside (by b x w) i in
+      seen z (way-end (n .2) (les-links r)) u x s a (F.rule6 (F.rule7 (n .1)) (by-follow t (given i)) (les-follow (n .2) r))
+
+  -- What follows by the rules `follows` says: its facts hold the given ones and are closed under each rule.
   abbrev H : Fact → Type 0
   H f = Holds sheet fs f
 
   pub gives : (f : Fact) → Among fs f → Holds sheet fs f
   gives (le u v) i = up (one-edge (given-le i))
-  gives (by a u v) i = sees (reach i stay stay)
+  gives (by a u v) i = sees (reach i stay stay stay)
   gives (sf u a b) i = speaks (one-edge (given-pair (linksOf fs) u i stay))
 
   -- Facts u ≤ v and u S_A v are ways over links,
+  le-les : {u v : ℕ} → H (le u v) → Way (lesOf fs) u v
+  le-les (same l) = stay
+  le-les (up p) = go p
+
   le-way : {u v : ℕ} → H (le u v) → Way (linksOf fs) u v
-  le-way (same l) = stay
-  le-way (up {u} {v} p) =
-      go (along (Path (linksOf fs)) (path-joined (linksOf fs)) (lesOf fs) (λ u v o. one-edge (le-links (les-given fs o))) u v p)
+  le-way p = les-links (le-les p)
 
   by-way : {a u v : ℕ} → H (by a u v) → Way (linksOf fs) u v
-  by-way (sees (reach i s t)) = way-joined s (go (one-edge (by-links i)))
+  by-way (sees (reach i s t r)) = way-joined s (way-joined (go (one-edge (by-links i))) (les-links r))
 
   -- along which pairs are carried.
   pairs-carried : {u v a b : ℕ} → Way (linksOf fs) u v → Path (pairsAt (linksOf fs) u fs) a b → Path (pairsAt (linksOf fs) v fs) a b
@@ -81,16 +108,16 @@ module _ (sheet : Sheet) (fs : List Fact) where
       again (pair i s) = one-edge (given-pair (linksOf fs) v i (way-joined s w))
 
   carried : {u v a b : ℕ} → Way (linksOf fs) u v → H (sf u a b) → H (sf v a b)
-  carried w (self l (below i s)) = self l (below i (way-joined s w))
+  carried w (self h l) = self (way-end h w) l
   carried w (speaks p) = speaks (pairs-carried w p)
 
   pairs-way : {u v a b : ℕ} → Way (linksOf fs) u v → H (sf u a b) → Way (pairsAt (linksOf fs) v fs) a b
-  pairs-way w (self l s) = stay
+  pairs-way w (self h l) = stay
   pairs-way w (speaks p) = go (pairs-carried w p)
 
   sf-sf : {u a b c : ℕ} → H (sf u a b) → H (sf u b c) → H (sf u a c)
-  sf-sf (self l s) q = q
-  sf-sf (speaks p) (self l s) = speaks p
+  sf-sf (self h l) q = q
+  sf-sf (speaks p) (self h l) = speaks p
   sf-sf (speaks {u} {a} {b} p) (speaks {b = c} q) = speaks (path-joined (pairsAt (linksOf fs) u fs) a b c p q)
 
   le-le : {u v w : ℕ} → H (le u v) → H (le v w) → H (le u w)
@@ -99,21 +126,21 @@ module _ (sheet : Sheet) (fs : List Fact) where
   le-le (up {u} {v} p) (up {v = w} q) = up (path-joined (lesOf fs) u v w p q)
 
   by-sf : {u v a b : ℕ} → H (by b u v) → H (sf u a b) → H (by a u v)
-  by-sf (sees (reach i s t)) q = sees (reach i s (way-joined (pairs-way s q) t))
+  by-sf (sees (reach i s t r)) q = sees (reach i s (way-joined (pairs-way s q) t) r)
 
-  way-by : {u v w a : ℕ} → Way (linksOf fs) u v → H (by a v w) → H (by a u w)
-  way-by l (sees (reach i s t)) = sees (reach i (way-joined l s) t)
+  way-by : {u v w z a : ℕ} → Way (linksOf fs) u v → H (by a v w) → Way (lesOf fs) w z → H (by a u z)
+  way-by l (sees (reach i s t r)) m = sees (reach i (way-joined l s) t (way-joined r m))
 
   pub obeys : Rules sheet (Holds sheet fs)
   obeys =
       record {
-        rule1 = λ u a i l. self l (below i stay);
+        rule1 = λ u a h l. self h l;
         rule2 = λ u v a b p q. by-sf p q;
         rule3 = λ u a b c p q. sf-sf p q;
         rule4 = λ u v a b c p q. carried (by-way p) q;
         rule5 = λ u v a b p q. carried (le-way p) q;
-        rule6 = λ u v w a p q. way-by (le-way p) q;
+        rule6 = λ u v w z a p q r. way-by (le-way p) q (le-les r);
         rule7 = λ u l. same l;
         rule8 = λ u v w p q. le-le p q;
-        rule9 = λ u v w a b p q. way-by (by-way p) q;
+        rule9 = λ u v w a b p q. way-by (by-way p) q stay;
       }

@@ -1,13 +1,12 @@
--- What `holds` says, as a type: `Holds` has a constructor for each way in which the test comes out true, and speaks of the given facts alone.
-use Prim.Native.Nat.{ℕ, zero, suc, _<_}
+-- What `follows` says, as a type: `Holds` has a constructor for each way in which the test comes out true, and speaks of the given facts
+-- alone; and what `named` keeps of a list.
+use Prim.Native.Nat.{ℕ, _<_}
 use mathlib.Core.Path.{_≡_, refl}
 use mathlib.Core.Bool.{Bool, true, false}
 use mathlib.Core.List.{List, [], _∷_}
 use mathlib.Core.Logic.{_⊎_, inl, inr}
-use native.Mathlib.Omega.{arith}
-use native.Mathlib.Nat.{eq-or-lt-of-le, le-of-suc-le-suc}
-use Rattle.scope.specs.Logic.Facts.{Fact, le, by, sf, Sheet, Among, here, there}
-use Rattle.scope.specs.Logic.Held.{Edge, edge, way, lesOf, linksOf, addIf, pairsAt, reaches, fromBelow, holds}
+use Rattle.scope.specs.Logic.Facts.{Fact, le, by, sf, Sheet, Among, here, there, Named, Basis, basis}
+use Rattle.scope.specs.Logic.Held.{Edge, edge, way, lesOf, linksOf, addIf, pairsAt, reaches, isNamed, keepIf, named, follows}
 use Rattle.scope.specs.Closing.Paths.{Agrees, agrees-as, agrees-none, agrees-both, agrees-either, agrees-eqb, agrees-ltb}
 use Rattle.scope.specs.Closing.Paths.{Path, Way, path-agrees, way-agrees, On, first, later}
 
@@ -90,81 +89,57 @@ given-pair links u (there {g = sf y c d} i) w = under (way links y u) (edge c d)
     under true d o = later o
     under false d o = o
 
--- Some x S_B w is given, to which links lead from u, and x: A sf B.
-pub data Reach (all : List Fact) (links : List Edge) (a u w : ℕ) (fs : List Fact) : Type 0 where
-  reach : {b x : ℕ} → Among fs (by b x w) → Way links u x → Way (pairsAt links x all) a b → Reach all links a u w fs
+-- Some x S_B w is given, to which links lead from u, with x: A sf B, and a way of ≤ leads from w to z.
+pub data Reach (all : List Fact) (links les : List Edge) (a u z : ℕ) (fs : List Fact) : Type 0 where
+  reach : {b x w : ℕ} → Among fs (by b x w) → Way links u x → Way (pairsAt links x all) a b → Way les w z →
+      Reach all links les a u z fs
 
--- Links lead to u from a world below n.
-pub data Below (n : ℕ) (links : List Edge) (u : ℕ) : Type 0 where
-  below : {x : ℕ} → x < n → Way links x u → Below n links u
-
--- `holds`, constructor for case.
+-- `follows`, constructor for case.
 pub data Holds (s : Sheet) (fs : List Fact) : Fact → Type 0 where
   same : {u : ℕ} → u < s .worlds → Holds s fs (le u u)
   up : {u v : ℕ} → Path (lesOf fs) u v → Holds s fs (le u v)
-  self : {u a : ℕ} → a < s .principals → Below (s .worlds) (linksOf fs) u → Holds s fs (sf u a a)
+  self : {u a : ℕ} → u < s .worlds → a < s .principals → Holds s fs (sf u a a)
   speaks : {u a b : ℕ} → Path (pairsAt (linksOf fs) u fs) a b → Holds s fs (sf u a b)
-  sees : {a u w : ℕ} → Reach fs (linksOf fs) a u w fs → Holds s fs (by a u w)
+  sees : {a u z : ℕ} → Reach fs (linksOf fs) (lesOf fs) a u z fs → Holds s fs (by a u z)
 
-reach-later : {all : List Fact} {links : List Edge} {a u w : ℕ} {g : Fact} {fs : List Fact} →
-    Reach all links a u w fs → Reach all links a u w (g ∷ fs)
-reach-later (reach i s t) = reach (there i) s t
+reach-later : {all : List Fact} {links les : List Edge} {a u z : ℕ} {g : Fact} {fs : List Fact} →
+    Reach all links les a u z fs → Reach all links les a u z (g ∷ fs)
+reach-later (reach i s t r) = reach (there i) s t r
 
-reaches-agrees : (all : List Fact) (links : List Edge) (a u w : ℕ) (fs : List Fact) →
-    Agrees (reaches all links a u w fs) (Reach all links a u w fs)
+reaches-agrees : (all : List Fact) (links les : List Edge) (a u z : ℕ) (fs : List Fact) →
+    Agrees (reaches all links les a u z fs) (Reach all links les a u z fs)
 unfolding reaches
-reaches-agrees all links a u w [] = agrees-none none
+reaches-agrees all links les a u z [] = agrees-none none
   where
-    none : Reach all links a u w [] → ⊥
-    none (reach i s t) = elim i [ ]
-reaches-agrees all links a u w (le x v ∷ fs) = agrees-as reach-later from (reaches-agrees all links a u w fs)
+    none : Reach all links les a u z [] → ⊥
+    none (reach i s t r) = elim i [ ]
+reaches-agrees all links les a u z (le x v ∷ fs) = agrees-as reach-later from (reaches-agrees all links les a u z fs)
   where
-    from : Reach all links a u w (le x v ∷ fs) → Reach all links a u w fs
-    from (reach (there i) s t) = reach i s t
-reaches-agrees all links a u w (sf x b c ∷ fs) = agrees-as reach-later from (reaches-agrees all links a u w fs)
+    from : Reach all links les a u z (le x v ∷ fs) → Reach all links les a u z fs
+    from (reach (there i) s t r) = reach i s t r
+reaches-agrees all links les a u z (sf x b c ∷ fs) = agrees-as reach-later from (reaches-agrees all links les a u z fs)
   where
-    from : Reach all links a u w (sf x b c ∷ fs) → Reach all links a u w fs
-    from (reach (there i) s t) = reach i s t
-reaches-agrees all links a u w (by b x v ∷ fs) =
+    from : Reach all links les a u z (sf x b c ∷ fs) → Reach all links les a u z fs
+    from (reach (there i) s t r) = reach i s t r
+reaches-agrees all links les a u z (by b x w ∷ fs) =
     agrees-as to from
     (agrees-either
-    (agrees-both (agrees-eqb v w) (agrees-both (way-agrees links u x)
-    (way-agrees (pairsAt links x all) a b)))
-    (reaches-agrees all links a u w fs))
+    (agrees-both (way-agrees links u x) (agrees-both (way-agrees (pairsAt links x all) a b) (way-agrees les w z)))
+    (reaches-agrees all links les a u z fs))
   where
-    to : ((v ≡ w) × (Way links u x × Way (pairsAt links x all) a b)) ⊎ Reach all links a u w fs →
-        Reach all links a u w (by b x v ∷ fs)
-    to (inl p) = rw (← p .0) (reach here (p .1 .0) (p .1 .1))
+    to : (Way links u x × (Way (pairsAt links x all) a b × Way les w z)) ⊎ Reach all links les a u z fs →
+        Reach all links les a u z (by b x w ∷ fs)
+    to (inl p) = reach here (p .0) (p .1 .0) (p .1 .1)
     to (inr r) = reach-later r
 
-    from : {w : ℕ} → Reach all links a u w (by b x v ∷ fs) →
-        ((v ≡ w) × (Way links u x × Way (pairsAt links x all) a b)) ⊎ Reach all links a u w fs
-    from (reach here s t) = inl (refl, (s, t))
-    from (reach (there i) s t) = inr (reach i s t)
+    from : Reach all links les a u z (by b x w ∷ fs) →
+        (Way links u x × (Way (pairsAt links x all) a b × Way les w z)) ⊎ Reach all links les a u z fs
+    from (reach here s t r) = inl (s, (t, r))
+    from (reach (there i) s t r) = inr (reach i s t r)
 
-below-agrees : (n : ℕ) (links : List Edge) (u : ℕ) → Agrees (fromBelow n links u) (Below n links u)
-unfolding fromBelow
-below-agrees zero links u = agrees-none none
-  where
-    none : Below 0 links u → ⊥
-    none (below l w) = omega arith
-below-agrees (suc n) links u =
-    agrees-as to from (agrees-either (way-agrees links n u) (below-agrees n links u))
-  where
-    to : Way links n u ⊎ Below n links u → Below (suc n) links u
-    to (inl w) = below {x = n} (omega arith) w
-    to (inr (below {x} l w)) = below {x = x} (omega arith) w
-
-    from : Below (suc n) links u → Way links n u ⊎ Below n links u
-    from (below {x} l w) = by-place (eq-or-lt-of-le (le-of-suc-le-suc l)) w
-      where
-        by-place : (x ≡ n) ⊎ (x < n) → Way links x u → Way links n u ⊎ Below n links u
-        by-place (inl e) w = inl (rw e at w)
-        by-place (inr l) w = inr (below l w)
-
-pub holds-agrees : (s : Sheet) (fs : List Fact) (f : Fact) → Agrees (holds s fs f) (Holds s fs f)
-unfolding holds
-holds-agrees s fs (le u v) =
+pub follows-agrees : (s : Sheet) (fs : List Fact) (f : Fact) → Agrees (follows s fs f) (Holds s fs f)
+unfolding follows
+follows-agrees s fs (le u v) =
     agrees-as to from (agrees-either (agrees-both (agrees-eqb u v) (agrees-ltb u (s .worlds))) (path-agrees (lesOf fs) u v))
   where
     to : ((u ≡ v) × (u < s .worlds)) ⊎ Path (lesOf fs) u v → Holds s fs (le u v)
@@ -174,21 +149,56 @@ holds-agrees s fs (le u v) =
     from : {v : ℕ} → Holds s fs (le u v) → ((u ≡ v) × (u < s .worlds)) ⊎ Path (lesOf fs) u v
     from (same l) = inl (refl, l)
     from (up p) = inr p
-holds-agrees s fs (sf u a b) =
+follows-agrees s fs (sf u a b) =
     agrees-as to from
     (agrees-either
-    (agrees-both (agrees-eqb a b) (agrees-both (agrees-ltb a (s .principals)) (below-agrees (s .worlds) (linksOf fs) u)))
+    (agrees-both (agrees-eqb a b) (agrees-both (agrees-ltb u (s .worlds)) (agrees-ltb a (s .principals))))
     (path-agrees (pairsAt (linksOf fs) u fs) a b))
   where
-    to : ((a ≡ b) × ((a < s .principals) × Below (s .worlds) (linksOf fs) u)) ⊎ Path (pairsAt (linksOf fs) u fs) a b → Holds s fs (sf u a b)
+    to : ((a ≡ b) × ((u < s .worlds) × (a < s .principals))) ⊎ Path (pairsAt (linksOf fs) u fs) a b → Holds s fs (sf u a b)
     to (inl p) = rw (← p .0) (self (p .1 .0) (p .1 .1))
     to (inr p) = speaks p
 
     from : {b : ℕ} → Holds s fs (sf u a b) →
-        ((a ≡ b) × ((a < s .principals) × Below (s .worlds) (linksOf fs) u)) ⊎ Path (pairsAt (linksOf fs) u fs) a b
-    from (self l s) = inl (refl, (l, s))
+        ((a ≡ b) × ((u < s .worlds) × (a < s .principals))) ⊎ Path (pairsAt (linksOf fs) u fs) a b
+    from (self h l) = inl (refl, (h, l))
     from (speaks p) = inr p
-holds-agrees s fs (by a u w) = agrees-as (λ r. sees r) from (reaches-agrees fs (linksOf fs) a u w fs)
+follows-agrees s fs (by a u z) = agrees-as (λ r. sees r) from (reaches-agrees fs (linksOf fs) (lesOf fs) a u z fs)
   where
-    from : Holds s fs (by a u w) → Reach fs (linksOf fs) a u w fs
+    from : Holds s fs (by a u z) → Reach fs (linksOf fs) (lesOf fs) a u z fs
     from (sees r) = r
+
+-- `named` keeps of a list what is its basis.
+named-agrees : (s : Sheet) (f : Fact) → Agrees (isNamed s f) (Named s f)
+unfolding isNamed
+named-agrees s (le u v) = agrees-as (λ p. (p .0, p .1)) (λ p. (p .0, p .1)) (agrees-both (agrees-ltb u (s .worlds)) (agrees-ltb v (s .worlds)))
+named-agrees s (by a u v) =
+    agrees-as (λ p. (p .0, p .1 .0, p .1 .1)) (λ p. (p .0, (p .1, p .2)))
+    (agrees-both (agrees-ltb a (s .principals)) (agrees-both (agrees-ltb u (s .worlds)) (agrees-ltb v (s .worlds))))
+named-agrees s (sf u a b) =
+    agrees-as (λ p. (p .0, p .1 .0, p .1 .1)) (λ p. (p .0, (p .1, p .2)))
+    (agrees-both (agrees-ltb u (s .worlds)) (agrees-both (agrees-ltb a (s .principals)) (agrees-ltb b (s .principals))))
+
+later-basis : {s : Sheet} {g f : Fact} {fs : List Fact} → Basis s fs f → Basis s (g ∷ fs) f
+later-basis (basis i n) = basis (there i) n
+
+pub basis-named : (s : Sheet) (fs : List Fact) (f : Fact) → Basis s fs f → Among (named s fs) f
+unfolding named
+basis-named s [] f (basis i n) = elim i [ ]
+basis-named s (f ∷ fs) f′ (basis here n) = rw (named-agrees s f .full n) here
+basis-named s (g ∷ fs) f (basis (there i) n) = under (isNamed s g) g (basis-named s fs f (basis i n))
+  where
+    under : (t : Bool) (g : Fact) {f : Fact} {fs : List Fact} → Among fs f → Among (keepIf t g fs) f
+    under true g i = there i
+    under false g i = i
+
+pub named-basis : (s : Sheet) (fs : List Fact) (f : Fact) → Among (named s fs) f → Basis s fs f
+unfolding named
+named-basis s [] f i = elim i [ ]
+named-basis s (g ∷ fs) f i = or-kept (isNamed s g) (named-agrees s g) i (named-basis s fs f)
+  where
+    or-kept : (t : Bool) {g f : Fact} {fs gs : List Fact} → Agrees t (Named s g) → Among (keepIf t g gs) f → (Among gs f → Basis s fs f) →
+        Basis s (g ∷ fs) f
+    or-kept true r here h = basis here (r .sound refl)
+    or-kept true r (there i) h = later-basis (h i)
+    or-kept false r i h = later-basis (h i)

@@ -8,13 +8,13 @@ use lib.ListN.{length, getElem?}
 use Rattle.scope.specs.Logic.Form as F
 use Rattle.scope.specs.Logic.Form.{Form, isSf, isPushed}
 use Rattle.scope.specs.Logic.Facts as Fact
-use Rattle.scope.specs.Logic.Facts.{Closed, Among}
+use Rattle.scope.specs.Logic.Facts.{Closed, Basis}
 use Rattle.scope.specs.Logic.Obligation.{Lab, lab, Sequent, withWorld, withFact, withClause, goal, chunks, focus, behind, Obligation, ob}
 use Rattle.scope.specs.Logic.Obligation.{Step, And, Or1, Or2, Imp, Says, Top, Sf, Use, Left, Right, To, Hit, Push, Split, Case, Absurd, Drop, Note}
 
 -- A fact is among the closed facts of a sequent.
 abbrev pub Has : Sequent → Fact.Fact → Type 0
-Has s f = Closed (s .sheet) (Among (s .facts)) f
+Has s f = Closed (s .sheet) (Basis (s .sheet) (s .facts)) f
 
 -- Rule o x os: the step x fits the obligation o, and the obligations os, first one first, take its place.
 pub data Rule : Obligation → Step → List Obligation → Type 0 where

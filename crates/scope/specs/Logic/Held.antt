@@ -1,5 +1,5 @@
--- The closed facts, computed from the list of given ones: `holds` answers what `Closed` defines (specs/Agree proves that it does, for every list).
-use Prim.Native.Nat.{ℕ, zero, suc}
+-- The closed facts, computed from the list of given ones: `holds` answers what `Closed` defines (specs/Closing/Agree proves that it does, for every list).
+use Prim.Native.Nat.{ℕ}
 use mathlib.Core.Path.{_≡_, refl}
 use mathlib.Core.Bool.{Bool, true, false}
 use mathlib.Core.List.{List, [], _∷_}
@@ -48,28 +48,43 @@ pairsAt links u (le x v ∷ fs) = pairsAt links u fs
 pairsAt links u (by a x v ∷ fs) = pairsAt links u fs
 pairsAt links u (sf x a b ∷ fs) = addIf (way links x u) (edge a b) (pairsAt links u fs)
 
--- Some x S_B w is given, to which links lead from u, and x: A sf B.
-unfoldable pub reaches : List Fact → List Edge → ℕ → ℕ → ℕ → List Fact → Bool
+-- Some x S_B w is given, to which links lead from u, with x: A sf B, and z is w or stands above it by the given ≤.
+unfoldable pub reaches : List Fact → List Edge → List Edge → ℕ → ℕ → ℕ → List Fact → Bool
 unfolding way pairsAt both either
-reaches all links a u w [] = false
-reaches all links a u w (le x v ∷ fs) = reaches all links a u w fs
-reaches all links a u w (by b x v ∷ fs) =
-    either (both (eqb v w) (both (way links u x) (way (pairsAt links x all) a b))) (reaches all links a u w fs)
-reaches all links a u w (sf x b c ∷ fs) = reaches all links a u w fs
+reaches all links les a u z [] = false
+reaches all links les a u z (le x v ∷ fs) = reaches all links les a u z fs
+reaches all links les a u z (by b x w ∷ fs) =
+    either (both (way links u x) (both (way (pairsAt links x all) a b) (way les w z))) (reaches all links les a u z fs)
+reaches all links les a u z (sf x b c ∷ fs) = reaches all links les a u z fs
 
--- Links lead to u from a world below n, which may be u itself: there u: A sf A holds (rule 1, carried on by rules 4 and 5).
-unfoldable pub fromBelow : ℕ → List Edge → ℕ → Bool
-unfolding way either
-fromBelow zero links u = false
-fromBelow (suc x) links u = either (way links x u) (fromBelow x links u)
+-- Which of the given facts are about the worlds and principals that there are?
+unfoldable pub isNamed : Sheet → Fact → Bool
+unfolding both
+isNamed s (le u v) = both (ltb u (s .worlds)) (ltb v (s .worlds))
+isNamed s (by a u v) = both (ltb a (s .principals)) (both (ltb u (s .worlds)) (ltb v (s .worlds)))
+isNamed s (sf u a b) = both (ltb u (s .worlds)) (both (ltb a (s .principals)) (ltb b (s .principals)))
+
+abbrev pub keepIf : Bool → Fact → List Fact → List Fact
+keepIf true f fs = f ∷ fs
+keepIf false f fs = fs
+
+unfoldable pub named : Sheet → List Fact → List Fact
+unfolding isNamed
+named s [] = []
+named s (f ∷ fs) = keepIf (isNamed s f) f (named s fs)
+
+-- Does the fact follow from such facts?
+unfoldable pub follows : Sheet → List Fact → Fact → Bool
+unfolding path lesOf linksOf pairsAt reaches both either
+follows s fs (le u v) = either (both (eqb u v) (ltb u (s .worlds))) (path (lesOf fs) u v)
+follows s fs (sf u a b) =
+    either (both (eqb a b) (both (ltb u (s .worlds)) (ltb a (s .principals)))) (path (pairsAt (linksOf fs) u fs) a b)
+follows s fs (by a u z) = reaches fs (linksOf fs) (lesOf fs) a u z fs
 
 -- For a sheet and the given facts: is the fact one of the closed ones?
 unfoldable pub holds : Sheet → List Fact → Fact → Bool
-unfolding path lesOf linksOf pairsAt reaches fromBelow both either
-holds s fs (le u v) = either (both (eqb u v) (ltb u (s .worlds))) (path (lesOf fs) u v)
-holds s fs (sf u a b) =
-    either (both (eqb a b) (both (ltb a (s .principals)) (fromBelow (s .worlds) (linksOf fs) u))) (path (pairsAt (linksOf fs) u fs) a b)
-holds s fs (by a u w) = reaches fs (linksOf fs) a u w fs
+unfolding follows named
+holds s fs f = follows s (named s fs) f
 
 abbrev sheet : ℕ → ℕ → Sheet
 sheet n k = record { worlds = n; principals = k }
@@ -84,16 +99,27 @@ p2-unseen : holds (sheet 2 2) (by 0 0 1 ∷ sf 0 0 1 ∷ []) (by 1 0 1) ≡ fals
 unfolding holds
 p2-unseen = refl
 
--- 0 ≤ 1 with 1 S_0 2 gives 0 S_0 2 by rule 6, and 0 S_0 1 with 1 ≤ 2 does not.
+-- 0 ≤ 1 with 1 S_0 2 gives 0 S_0 2 by rule 6, and so does 0 S_0 1 with 1 ≤ 2.
 le-by-seen : holds (sheet 3 1) (by 0 1 2 ∷ le 0 1 ∷ []) (by 0 0 2) ≡ true
 unfolding holds
 le-by-seen = refl
 
-by-le-unseen : holds (sheet 3 1) (le 1 2 ∷ by 0 0 1 ∷ []) (by 0 0 2) ≡ false
+by-le-seen : holds (sheet 3 1) (le 1 2 ∷ by 0 0 1 ∷ []) (by 0 0 2) ≡ true
 unfolding holds
-by-le-unseen = refl
+by-le-seen = refl
 
--- Rule 4 carries 0: 0 sf 0 to world 5, though there is but one world: no list of facts is shut out.
-self-carried : holds (sheet 1 1) (by 0 0 5 ∷ []) (sf 5 0 0) ≡ true
+-- From 0 ≤ 1 and 0 S_0 2 follows nothing of 1, and from 1 ≤ 2 and 0 S_0 2 nothing of 1; and ≤ is no S, nor S ≤.
+unseen :
+    holds (sheet 3 1) (by 0 0 2 ∷ le 0 1 ∷ []) (by 0 1 2) ∷
+    holds (sheet 3 1) (le 1 2 ∷ by 0 0 2 ∷ []) (by 0 0 1) ∷
+    holds (sheet 2 1) (le 0 1 ∷ []) (by 0 0 1) ∷
+    holds (sheet 2 1) (by 0 0 1 ∷ []) (le 0 1) ∷
+    []
+    ≡ false ∷ false ∷ false ∷ false ∷ []
 unfolding holds
-self-carried = refl
+unseen = refl
+
+-- A fact about a world that there is not counts for nothing.
+unnamed : holds (sheet 1 1) (by 0 0 5 ∷ []) (by 0 0 5) ≡ false
+unfolding holds
+unnamed = refl

@@ -93,10 +93,10 @@ facts =
     case
     "version=1\nprincipals=1\natoms=2\nformulas=5\nform=p 0\nform=p 1\nform=says 0 1\nform=imp 0 1\nform=says 0 3\nclauses=1\nclause=2\ngoal=4\nsteps=6\nstep=says\nstep=imp\nstep=push\nstep=use 0\nstep=to 1\nstep=hit\n"
     (prints 0 0 6) ∷
-    -- and no rule takes S along ≤ on the right: the same with `to 2`
+    -- and the straight route, by 0 S_0 1 and 1 ≤ 2 (rule 6): the same with `to 2`
     case
     "version=1\nprincipals=1\natoms=2\nformulas=5\nform=p 0\nform=p 1\nform=says 0 1\nform=imp 0 1\nform=says 0 3\nclauses=1\nclause=2\ngoal=4\nsteps=6\nstep=says\nstep=imp\nstep=push\nstep=use 0\nstep=to 2\nstep=hit\n"
-    (prints 9 5 6) ∷
+    (prints 0 0 6) ∷
     -- rule 8: policy p1, goal p0 imp (p0 imp p1)
     case
     "version=1\nprincipals=1\natoms=2\nformulas=4\nform=p 0\nform=p 1\nform=imp 0 1\nform=imp 0 2\nclauses=1\nclause=1\ngoal=3\nsteps=6\nstep=imp\nstep=push\nstep=imp\nstep=push\nstep=use 0\nstep=hit\n"
