@@ -1,8 +1,8 @@
 -- Laws of closing, for any base: all that is used of the closed facts is that they are the least set that holds the base and obeys the rules.
-use Prim.Native.Nat.{ℕ, _≤_}
+use Prim.Native.Nat.{ℕ, _<_, _≤_}
 use mathlib.Core.Logic.{_↔_, _⊎_, inl, inr, ⊎-elim}
 use native.Mathlib.Omega.{arith}
-use Rattle.scope.specs.Logic.Facts.{Fact, Sheet, Closed, given, rule1, rule7, closed, least}
+use Rattle.scope.specs.Logic.Facts.{Fact, le, by, Sheet, Closed, given, rule1, rule6, rule7, closed, least}
 
 -- One set of facts and another put together.
 abbrev pub Joined : (Fact → Type 0) → (Fact → Type 0) → Fact → Type 0
@@ -26,6 +26,11 @@ larger {t} {B} p q h =
       rule9 = c .rule9;
     })
     (λ g a. given (h g a))
+
+-- Rule 6 where nothing follows on the right, as document 01 had it, is the case z = w, by rule 7.
+pub rule6-there : {s : Sheet} {A : Fact → Type 0} {u v w a : ℕ} →
+    w < s .worlds → Closed s A (le u v) → Closed s A (by a v w) → Closed s A (by a u w)
+rule6-there h p q = rule6 p q (rule7 h)
 
 -- What follows from a base follows from each base from which that base follows.
 pub through : {s : Sheet} {A B : Fact → Type 0} {f : Fact} →
