@@ -89,7 +89,7 @@ facts =
     case
     "version=1\nprincipals=2\natoms=1\nformulas=3\nform=sf 0 1\nform=p 0\nform=imp 1 0\nclauses=1\nclause=0\ngoal=2\nsteps=3\nstep=imp\nstep=push\nstep=sf\n"
     (prints 0 0 3) ∷
-    -- rule 6: 0 S_0 1 and 1 ≤ 2: policy 0 says p1, goal 0 says (p0 imp p1), `to 1`
+    -- a clause used from a newer world, which stands above world 1 by ≤: policy 0 says p1, goal 0 says (p0 imp p1), `to 1`
     case
     "version=1\nprincipals=1\natoms=2\nformulas=5\nform=p 0\nform=p 1\nform=says 0 1\nform=imp 0 1\nform=says 0 3\nclauses=1\nclause=2\ngoal=4\nsteps=6\nstep=says\nstep=imp\nstep=push\nstep=use 0\nstep=to 1\nstep=hit\n"
     (prints 0 0 6) ∷
