@@ -109,8 +109,8 @@ fn every_wrong_rule_sheet_is_found_out() {
     let random = (0..2_000).map(|index| generate::random_text(45, index));
     let texts: Vec<Text> = generate::directed().into_iter().chain(random).collect();
     let right: Vec<Option<(usize, bool)>> = texts.iter().map(|text| by_sheet(text, None)).collect();
-    let without = (1..=9).map(Wrong::Without);
-    for wrong in WRONG.into_iter().chain(without) {
+    let narrower = (1..=9).map(Wrong::Without).chain([Wrong::Rule6Narrow]);
+    for wrong in WRONG.into_iter().chain(narrower) {
         let differs = |(text, right): &(&Text, &Option<(usize, bool)>)| by_sheet(text, Some(wrong)) != **right;
         let found = texts.iter().zip(&right).filter(differs).take(2).count();
         assert_eq!(found, 2, "{wrong:?}");

@@ -129,7 +129,7 @@ impl Closed {
             self.widen_said(u); // 2
             for v in bits(self.below[u]) {
                 self.below[u] |= self.below[v]; // 8
-                self.take_said(u, v); // 6
+                self.carry_said(u, v); // 6
             }
             for v in bits(self.said_by_any(u)) {
                 self.take_said(u, v); // 9
@@ -162,6 +162,15 @@ impl Closed {
         for a in 0..self.principals {
             for b in bits(self.sf[u][a].into()) {
                 self.said[u][a] |= self.said[u][b];
+            }
+        }
+    }
+
+    /// u S_A z wherever v S_A w and w ≤ z.
+    fn carry_said(&mut self, u: usize, v: usize) {
+        for a in 0..self.principals {
+            for w in bits(self.said[v][a]) {
+                self.said[u][a] |= self.below[w];
             }
         }
     }

@@ -45,7 +45,7 @@ impl Facts for Kept {
     fn add_above(&mut self, u: usize) -> usize {
         let v = self.add_leaf(u);
         self.below[v] = self.below[u] | 1 << v;
-        self.said[v] = [0; PRINCIPALS];
+        self.said[v] = self.said[u]; // by rule 6, with u ≤ v
         v
     }
 

@@ -17,8 +17,10 @@ pub enum Wrong {
     BelowBothWays,
     /// u ≤ v with v: A sf B gives u: A sf B.
     Rule5Backward,
-    /// u S_A v with v ≤ w gives u S_A w.
-    Rule6Backward,
+    /// Rule 6 stops at z = w: u ≤ v with v S_A w gives u S_A w.
+    Rule6Narrow,
+    /// u ≤ v with u S_A w gives v S_A w.
+    Rule6Upward,
     /// u S_B v with v S_A w gives u S_B w.
     Rule9First,
     /// u S_A u.
@@ -28,7 +30,7 @@ pub enum Wrong {
 }
 
 /// The rules too many. Rule 4 backward is not among them: nothing is ever noted at a world that an S fact leads to,
-/// so no request could tell.
+/// so no request could tell; nor is u S_A w with z ≤ w for u S_A z, which follows wherever z ≤ w can be.
 pub const WRONG: [Wrong; 9] = [
     Wrong::Rule2Backward,
     Wrong::SfBothWays,
@@ -36,7 +38,7 @@ pub const WRONG: [Wrong; 9] = [
     Wrong::BelowIsSaid,
     Wrong::BelowBothWays,
     Wrong::Rule5Backward,
-    Wrong::Rule6Backward,
+    Wrong::Rule6Upward,
     Wrong::Rule9First,
     Wrong::SaidOfItself,
 ];
@@ -208,7 +210,10 @@ impl Naive {
             }
             for a in 0..self.principals {
                 if self.said[a][v][w] && self.has_rule(6) {
-                    self.set_said(u, a, w);
+                    self.follow_to_the_end(u, a, w);
+                }
+                if self.said[a][u][w] && self.wrong == Some(Wrong::Rule6Upward) {
+                    self.set_said(v, a, w);
                 }
             }
         }
@@ -220,6 +225,17 @@ impl Naive {
             Some(Wrong::BelowBothWays) => self.set_below(v, u),
             Some(Wrong::Rule5Backward) => self.copy_sf(v, u),
             _ => (),
+        }
+    }
+
+    /// What u ≤ v and v S_A w give, by rule 6: u S_A z for each z with w ≤ z.
+    fn follow_to_the_end(&mut self, u: usize, a: usize, w: usize) {
+        let narrow = self.wrong == Some(Wrong::Rule6Narrow);
+        for z in 0..self.worlds() {
+            let there = if narrow { z == w } else { self.below[w][z] };
+            if there {
+                self.set_said(u, a, z);
+            }
         }
     }
 
@@ -253,9 +269,6 @@ impl Naive {
             if self.said[a][v][w] && self.wrong == Some(Wrong::Rule9First) {
                 self.set_said(u, c, w);
             }
-        }
-        if self.below[v][w] && self.wrong == Some(Wrong::Rule6Backward) {
-            self.set_said(u, c, w);
         }
     }
 }

@@ -15,7 +15,7 @@ pub fn traps() -> Vec<Text> {
     all.into_iter().map(make).collect()
 }
 
-const FACTS: [Trap; 25] = [
+const FACTS: [Trap; 33] = [
     // A note holds from its world on: at world 1, but not back at the root.
     ("note-here", "sf 0 1, p 0, imp 0 1", "2", "imp, note, use 0, to 1, hit, sf", 0, 0),
     ("note-not-back", "sf 0 1, p 0, imp 0 1", "2", "imp, note, use 0, to 0, hit, sf", 9, 6),
@@ -32,11 +32,56 @@ const FACTS: [Trap; 25] = [
     ("sf-said", "sf 0 1, says 2 0", "0", "says, sf", 0, 0),
     ("sf-said-backward", "sf 0 1, sf 1 0, says 2 1", "0", "says, sf", 9, 2),
     ("sf-after-imp", "sf 0 1, top, imp 1 0", "0", "imp, drop, sf", 0, 0),
-    // Rule 9 takes the later principal, rule 6 goes before and not after.
+    // Rule 9 takes the later principal; rule 6 goes before and after, and gives what is said.
     ("said-twice", "p 0, says 0 0, says 1 1", "1", "says, says, use 0, to 2, hit", 0, 0),
     ("said-twice-first", "p 0, says 1 0, says 0 0, says 1 2", "1", "says, says, use 0, to 2", 9, 4),
     ("above-then-said", "p 0, says 0 0, top, imp 2 1", "1", "imp, drop, says, use 0, to 2, hit", 0, 0),
-    ("said-then-above", "p 0, says 0 0, top, imp 2 0, says 0 3", "1", "says, imp, drop, use 0, to 2", 9, 5),
+    ("said-then-above", "p 0, says 0 0, top, imp 2 0, says 0 3", "1", "says, imp, drop, use 0, to 2, hit", 0, 0),
+    ("said-then-above-other", "p 0, says 1 0, top, imp 2 0, says 0 3", "1", "says, imp, drop, use 0, to 2", 9, 5),
+    (
+        "said-then-above-twice",
+        "p 0, says 0 0, top, imp 2 0, imp 2 3, says 0 4",
+        "1",
+        "says, imp, drop, imp, drop, use 0, to 3, hit",
+        0,
+        0,
+    ),
+    (
+        "above-said-above",
+        "p 0, says 0 0, top, imp 2 0, says 0 3, imp 2 4",
+        "1",
+        "imp, drop, says, imp, drop, use 0, to 3, hit",
+        0,
+        0,
+    ),
+    // By rules 2 and 9 with it: what speaks for the principal, and what is said further on.
+    (
+        "said-then-above-sf",
+        "p 0, says 0 0, top, imp 2 0, says 1 3, sf 0 1, imp 5 4",
+        "1",
+        "imp, note, says, imp, drop, use 0, to 3, hit",
+        0,
+        0,
+    ),
+    (
+        "said-above-said",
+        "p 0, says 1 0, top, says 1 0, imp 2 3, says 0 4",
+        "1",
+        "says, imp, drop, says, use 0, to 3, hit",
+        0,
+        0,
+    ),
+    // A clause that is said is said up to there, and no more than said.
+    (
+        "said-above-not-below",
+        "p 0, p 1, imp 0 1, says 0 2, top, imp 4 1, says 0 5",
+        "3, 0",
+        "says, imp, drop, use 0, to 2, to 2, hit, use 1, hit",
+        9,
+        9,
+    ),
+    ("said-above-not-hit", "p 0, top, imp 1 0, says 0 2", "0", "says, imp, drop, use 0, hit", 9, 5),
+    ("said-above-back", "p 0, says 0 0, top, imp 2 0, says 0 3", "1", "says, imp, drop, use 0, to 0", 9, 5),
     ("above-is-not-said", "p 0, says 0 0, top, imp 2 0", "1", "imp, drop, use 0, to 1", 9, 4),
     ("said-is-not-above", "p 0, p 1, imp 1 0, says 0 0", "2", "says, use 0, to 1", 9, 3),
     ("not-said-of-itself", "p 0, says 0 0, p 0", "1", "use 0, to 0", 9, 2),
