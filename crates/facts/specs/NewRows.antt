@@ -8,7 +8,7 @@ use lib.ListN.{length, getD, set, length-set}
 use lib.Seq.{getD-set-same, getD-set-other}
 use lib.Bits.{bitOr}
 use Rattle.facts.specs.Fill.{fill, fill-more, length-fill, fill-before, fill-after, fill-at, below-or-past}
-use Rattle.facts.specs.Rows.{worldsMax, principalsMax, rowsEach, rowsMax, leAt, upAt, byAt, sfAt, oneBit, sfRows, backRow, putSf, newWorld, overRow}
+use Rattle.facts.specs.Rows.{worldsMax, principalsMax, rowsEach, rowsMax, leAt, upAt, byAt, sfAt, oneBit, sfRows, backRow, putSf, newWorld}
 use Rattle.facts.specs.Kept.{saved-row, Agree}
 
 -- How a table s with the new world n behind u is read: l is its row of ≤ and up its row of ancestors, both but for n itself, and f c the row
@@ -22,21 +22,24 @@ pub record NewRows (n u l up : ℕ) (f : ℕ → ℕ) (r s : List ℕ) : Type 0 
   pub row-sf : (c : ℕ) → c < principalsMax → getD s (sfAt n + c) 0 ≡ getD r (sfAt u + c) 0
 
 -- A loop that takes over the rows of S of world u for world n, whichever they are, reads each as it stood before the loop,
-over-read : (r : List ℕ) (u n c : ℕ) → c < principalsMax → getD (fill (overRow r u) (byAt n) c r) (byAt u + c) 0 ≡ overRow r u c
-over-read r u n c h =
-    ⊎-elim (λ low. fill-before (overRow r u) (byAt n) c r (byAt u + c) low)
-    (λ past. fill-after (overRow r u) (byAt n) c r (byAt u + c) (omega arith))
+abbrev rowsBy : List ℕ → ℕ → ℕ → ℕ
+rowsBy r u i = getD r (byAt u + i) 0
+
+read-before : (r : List ℕ) (u n c : ℕ) → c < principalsMax → getD (fill (rowsBy r u) (byAt n) c r) (byAt u + c) 0 ≡ rowsBy r u c
+read-before r u n c h =
+    ⊎-elim (λ low. fill-before (rowsBy r u) (byAt n) c r (byAt u + c) low)
+    (λ past. fill-after (rowsBy r u) (byAt n) c r (byAt u + c) (omega arith))
     (below-or-past (byAt u + c) (byAt n))
 
 pub over-turn : (r : List ℕ) (u n c : ℕ) {from at z : ℕ} {x y : List ℕ} → c < principalsMax → from ≡ byAt u → at ≡ byAt n →
     x ≡ fill (λ (i : ℕ). getD r (from + i) 0) at c r → z ≡ getD x (from + c) 0 → y ≡ set x (at + c) z →
     y ≡ fill (λ (i : ℕ). getD r (from + i) 0) at (c + 1) r
 over-turn r u n c {x = x} h hf ha hx hz hy =
-    let was : x ≡ fill (overRow r u) (byAt n) c r = rw (hf, ha) at hx in
-    rw (hf, ha) (fill-more (overRow r u) (byAt n) c r was (rw ha at hy) (rw (hf, was) at hz ∙ over-read r u n c h))
+    let was : x ≡ fill (rowsBy r u) (byAt n) c r = rw (hf, ha) at hx in
+    rw (hf, ha) (fill-more (rowsBy r u) (byAt n) c r was (rw ha at hy) (rw (hf, was) at hz ∙ read-before r u n c h))
 
 -- and as it stood before the first rows of n were written.
-pub over-still : (r : List ℕ) (u n l up c : ℕ) → c < principalsMax → overRow (newWorld r u n l up) u c ≡ overRow r u c
+pub over-still : (r : List ℕ) (u n l up c : ℕ) → c < principalsMax → getD (newWorld r u n l up) (byAt u + c) 0 ≡ getD r (byAt u + c) 0
 unfolding newWorld putSf
 over-still r u n l up c h =
     let p : byAt u + c ≡ upAt n → ⊥ = λ e. omega arith in
