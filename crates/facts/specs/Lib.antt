@@ -1,5 +1,6 @@
 pub mod Fill
 pub mod Bits
+pub mod Widths
 pub mod Rows
 pub mod Kept
 pub mod Closing

@@ -11,7 +11,8 @@ use steps::MOST_WORLDS;
 use steps::Principal;
 use steps::World;
 
-pub type Row = u32;
+// One bit for each world.
+pub type Row = u64;
 
 pub const WORLDS: usize = MOST_WORLDS as usize;
 

@@ -21,7 +21,7 @@ mostSteps = 2048
 
 -- worlds of a sequent, root included
 abbrev pub mostWorlds : ℕ
-mostWorlds = 32
+mostWorlds = 64
 
 -- clauses of a sequent, policy lines included
 abbrev pub mostClauses : ℕ

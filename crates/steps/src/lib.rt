@@ -13,7 +13,7 @@ pub struct Clause(pub u16);
 // What is allowed, as scope/specs/Limits has it: principals; worlds and clauses of a sequent; open obligations; chunks of an obligation.
 pub const MOST_PRINCIPALS: u16 = 16;
 
-pub const MOST_WORLDS: u16 = 32;
+pub const MOST_WORLDS: u16 = 64;
 
 pub const MOST_CLAUSES: u16 = 256;
 

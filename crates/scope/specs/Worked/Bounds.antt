@@ -92,7 +92,7 @@ pushed n =
 abbrev pub both-sides : (ℕ → Request) → ℕ → List Answer
 both-sides q n = stepsAnswer (q n) ∷ stepsAnswer (q (suc n)) ∷ []
 
-pub worlds-hold : both-sides nested 31 ≡ answer 0 0 ∷ answer 10 32 ∷ []
+pub worlds-hold : both-sides nested 63 ≡ answer 0 0 ∷ answer 10 64 ∷ []
 unfolding stepsAnswer nested
 worlds-hold = refl
 
