@@ -87,7 +87,7 @@ enum peraduksi_limit {
     PERADUKSI_MOST_POLICY_LINES = 128,
     PERADUKSI_MOST_STEPS = 2048,
     PERADUKSI_MOST_STEP_NUMBER = 65535, /* that `use` or `to` takes */
-    PERADUKSI_MOST_WORLDS = 32,         /* of a sequent, root included */
+    PERADUKSI_MOST_WORLDS = 64,         /* of a sequent, root included */
     PERADUKSI_MOST_CLAUSES = 256,       /* of a sequent, policy lines included */
     PERADUKSI_MOST_OPEN = 256,          /* obligations: current, waiting, and subgoals met */
     PERADUKSI_MOST_CHUNKS = 16          /* of an obligation */
@@ -100,7 +100,7 @@ enum peraduksi_room {
     PERADUKSI_STEPS_ROOM = 2 * PERADUKSI_MOST_STEPS
 };
 
-/* Stack that is enough below any call, in bytes; the gate takes the most, some 52,000. */
+/* Stack that is enough below any call, in bytes; the gate takes the most, some 56,000. */
 enum peraduksi_stack {
     PERADUKSI_STACK = 65536
 };

@@ -1,4 +1,4 @@
-//! A plain implementation of document 01, with request b) of document 02: reader, writer, judge and gate, and a generator of requests to compare
+//! A plain implementation of document 01, with requests b) and f) of document 02: reader, writer, judge and gate, and a generator of requests to compare
 //! another implementation with.
 
 pub mod answers;

@@ -1,4 +1,4 @@
-//! What document 01 allows, in its own table's order.
+//! What document 01 allows, in its own table's order; the worlds as in request f) of document 02.
 
 pub const FILE: usize = 65_536;
 pub const PRINCIPALS: usize = 16;
@@ -6,7 +6,7 @@ pub const ATOMS: usize = 256;
 pub const FORMULAS: usize = 1_024;
 pub const LINES: usize = 128;
 pub const STEPS: usize = 2_048;
-pub const WORLDS: usize = 32;
+pub const WORLDS: usize = 64;
 pub const CLAUSES: usize = 256;
 pub const OPEN: usize = 256;
 pub const CHUNKS: usize = 16;

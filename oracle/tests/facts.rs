@@ -82,7 +82,8 @@ fn by_sheet(text: &Text, wrong: Option<Wrong>) -> Option<(usize, bool)> {
     let (mut forms, mut clauses, mut steps) =
         ([0; limits::FORMS_ROOM], [0; limits::CLAUSES_ROOM], [0; limits::STEPS_ROOM]);
     let answer = read(&text.bytes, &mut forms, &mut clauses, &mut steps);
-    if answer.refusal != refusal::NONE || answer.principals > 4 || answer.steps > 200 {
+    let made = steps.chunks_exact(2).filter(|step| matches!(Step::of(step[0].into(), 0), Step::Imp | Step::Says));
+    if answer.refusal != refusal::NONE || answer.principals > 4 || answer.steps > 200 || made.count() > 40 {
         return None;
     }
     let facts = Naive::by(answer.principals, wrong);

@@ -87,8 +87,8 @@ impl Afresh {
 pub struct Closed {
     worlds: usize,
     principals: usize,
-    pub below: [u32; WORLDS],
-    pub said: [[u32; PRINCIPALS]; WORLDS],
+    pub below: [u64; WORLDS],
+    pub said: [[u64; PRINCIPALS]; WORLDS],
     pub sf: [[u16; PRINCIPALS]; WORLDS],
 }
 
@@ -138,7 +138,7 @@ impl Closed {
     }
 
     /// Every v with u S_C v for some C.
-    fn said_by_any(&self, u: usize) -> u32 {
+    fn said_by_any(&self, u: usize) -> u64 {
         self.said[u].iter().fold(0, |any, row| any | row)
     }
 
@@ -183,7 +183,7 @@ impl Closed {
 }
 
 /// The numbers whose bits are set, smallest first.
-fn bits(mut row: u32) -> impl Iterator<Item = usize> {
+fn bits(mut row: u64) -> impl Iterator<Item = usize> {
     std::iter::from_fn(move || {
         let bit = (row != 0).then(|| row.trailing_zeros() as usize)?;
         row &= row - 1;

@@ -9,11 +9,11 @@ use crate::limits::{PRINCIPALS, WORLDS};
 pub struct Kept {
     worlds: usize,
     /// Bit u for u an ancestor of the world, or itself.
-    path: [u32; WORLDS],
+    path: [u64; WORLDS],
     /// Bit u for u ≤ the world.
-    below: [u32; WORLDS],
+    below: [u64; WORLDS],
     /// Bit u for u S_A the world.
-    said: [[u32; PRINCIPALS]; WORLDS],
+    said: [[u64; PRINCIPALS]; WORLDS],
     /// Bit b for A sf B at the world.
     sf: [[u16; PRINCIPALS]; WORLDS],
 }

@@ -11,6 +11,7 @@ use crate::tables::{Form, Step};
 pub fn bounds() -> Vec<Text> {
     [
         worlds(),
+        far_facts(),
         clauses(),
         open(),
         orders(),
@@ -43,21 +44,59 @@ fn chain(request: &mut Request, first: Form, count: usize, next: impl Fn(usize) 
 
 fn worlds() -> Vec<Text> {
     let mut texts = Vec::new();
-    for height in [30, 31, 32, 33] {
-        let over = height > 31;
+    // The first three heights were about the limit before request f).
+    for height in [31, 32, 33, limits::WORLDS - 2, limits::WORLDS - 1, limits::WORLDS, limits::WORLDS + 1] {
+        let over = height >= limits::WORLDS;
         let mut says = Request::new(1, 1);
         says.goal = chain(&mut says, Form::Top, height, |body| Form::Says(0, body));
         says.steps = [vec![Step::Says; height], vec![Step::Top]].concat();
-        texts.push(limited(&says, format!("d-worlds-says-{height}"), over, 32));
+        texts.push(limited(&says, format!("d-worlds-says-{height}"), over, limits::WORLDS));
         let mut imp = Request::new(1, 1);
         imp.goal = chain(&mut imp, Form::Top, height, |right| Form::Imp(0, right));
         imp.steps = [[Step::Imp, Step::Drop].repeat(height), vec![Step::Top]].concat();
-        texts.push(limited(&imp, format!("d-worlds-imp-{height}"), over, 63));
+        texts.push(limited(&imp, format!("d-worlds-imp-{height}"), over, 2 * limits::WORLDS - 1));
         // Both parts of an `and` have the whole number of worlds to themselves.
         let mut twice = says.clone();
         twice.goal = twice.add(Form::And(says.goal, says.goal));
         twice.steps = [vec![Step::And], says.steps.repeat(2)].concat();
-        texts.push(limited(&twice, format!("d-worlds-twice-{height}"), over, 33));
+        texts.push(limited(&twice, format!("d-worlds-twice-{height}"), over, limits::WORLDS + 1));
+    }
+    texts
+}
+
+/// Facts between the root and a far world, there and absent: a row that is too narrow, or that counts from 0 again, tells.
+fn far_facts() -> Vec<Text> {
+    let mut texts = Vec::new();
+    for far in [31, 32, 33, limits::WORLDS - 1] {
+        let mut said = Request::new(2, 1);
+        let atom = said.add(Form::P(0));
+        said.policy = vec![said.add(Form::Says(0, atom)), atom];
+        said.goal = (0..far).fold(atom, |body, _| said.add(Form::Says(0, body)));
+        let with = |name: &str, steps: &[Step], answer: u8| {
+            let mut request = said.clone();
+            request.steps = [&vec![Step::Says; far], steps].concat();
+            let place = if answer == 0 { 0 } else { request.steps.len() };
+            request.wanting(format!("d-far-{name}-{far}"), answer, place)
+        };
+        texts.push(with("said", &[Step::Use(0), Step::To(far), Step::Hit], 0));
+        texts.push(with("said-elsewhere", &[Step::Use(0), Step::To(far - 1), Step::Hit], 9));
+        texts.push(with("not-above", &[Step::Use(1), Step::Hit], 9));
+        texts.push(with("no-world", &[Step::Use(0), Step::To(far + 1)], 8));
+        let mut above = Request::new(1, 1);
+        let (top, atom) = (above.add(Form::Top), above.add(Form::P(0)));
+        above.policy = vec![atom];
+        above.goal = (0..far).fold(atom, |right, _| above.add(Form::Imp(top, right)));
+        above.steps = [[Step::Imp, Step::Drop].repeat(far), vec![Step::Use(0), Step::Hit]].concat();
+        texts.push(above.wanting(format!("d-far-above-{far}"), 0, 0));
+        for (a, b) in [(0, 1), (1, 0)] {
+            let mut speaks = Request::new(2, 1);
+            speaks.policy = vec![speaks.add(Form::Sf(0, 1))];
+            let asked = speaks.add(Form::Sf(a, b));
+            speaks.goal = (0..far).fold(asked, |body, _| speaks.add(Form::Says(1, body)));
+            speaks.steps = [vec![Step::Says; far], vec![Step::Sf]].concat();
+            let (answer, place) = if a == 0 { (0, 0) } else { (9, far + 1) };
+            texts.push(speaks.wanting(format!("d-far-sf-{a}-{b}-{far}"), answer, place));
+        }
     }
     texts
 }
@@ -158,9 +197,10 @@ fn orders() -> Vec<Text> {
         with(0, Step::And, 7),
     ];
     let mut tower = Request::new(1, 1);
-    tower.goal = chain(&mut tower, Form::Top, 31, |body| Form::Says(0, body));
-    tower.steps = [vec![Step::Says; 31], vec![Step::Imp]].concat();
-    texts.push(tower.wanting("d-order-7-worlds", 7, 32));
+    let height = limits::WORLDS - 1;
+    tower.goal = chain(&mut tower, Form::Top, height, |body| Form::Says(0, body));
+    tower.steps = [vec![Step::Says; height], vec![Step::Imp]].concat();
+    texts.push(tower.wanting("d-order-7-worlds", 7, limits::WORLDS));
     texts
 }
 

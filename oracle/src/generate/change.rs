@@ -7,8 +7,8 @@ use crate::tables::{Form, Step, STEPS};
 /// Any step, its number mostly small.
 pub fn any_step(prng: &mut Prng) -> Step {
     let number = match prng.below(12) {
-        0 => prng.pick(&[31, 32, 127, 128, 255, 256, 65_535]),
-        1..=3 => prng.below(40),
+        0 => prng.pick(&[31, 32, 63, 64, 127, 128, 255, 256, 65_535]),
+        1..=3 => prng.below(70),
         _ => prng.below(6),
     };
     prng.pick(&STEPS).1.with(number)

@@ -71,14 +71,16 @@ pub fn numbered() -> Vec<Text> {
     ]
 }
 
-/// The further cases, as document 02 has them now: its request b) grants `to 2`.
+/// The further cases, as document 02 has them now: its request b) grants `to 2`, its request f) has 64 worlds.
 pub fn further() -> Vec<Text> {
     let forms = "p 0, p 1, says 0 1, imp 0 1, says 0 3";
     vec![
         case("further-to-1", text(forms, "2", "says, imp, push, use 0, to 1, hit"), 0, 0, 6),
         case("further-to-2", text(forms, "2", "says, imp, push, use 0, to 2, hit"), 0, 0, 6),
         tower(31, 0, 0),
-        tower(32, 10, 32),
+        tower(32, 0, 0),
+        tower(63, 0, 0),
+        tower(64, 10, 64),
         case("further-empty", "", 2, 1, 0),
         case("further-cr-lf", P1.replace('\n', "\r\n"), 2, 1, 0),
         case("further-principals-17", P1.replace("principals=2", "principals=17"), 3, 2, 0),

@@ -11,12 +11,12 @@ use crate::tables::{Form, Step};
 /// Every heavy request; all are granted but the first, which reads to its end and is refused at its first step.
 pub fn heavy() -> Vec<Text> {
     let mut texts = vec![longest_text(), longest_granted(), doubling()];
-    for (worlds, principals) in [(1, 1), (1, 16), (8, 4), (31, 1), (31, 16), (32, 16)] {
+    for (worlds, principals) in [(1, 1), (1, 16), (8, 4), (31, 1), (31, 16), (32, 16), (63, 1), (63, 16), (64, 16)] {
         let request = asking(worlds, principals);
         texts.push(request.wanting(format!("h-asking-{worlds}-worlds-{principals}-principals"), 0, 0));
     }
-    texts.push(many_notes());
-    texts.push(many_worlds());
+    texts.extend([many_notes(31, 9), many_notes(62, 5)]);
+    texts.extend([31, limits::WORLDS - 1].map(many_worlds));
     texts.push(many_branches());
     texts
 }
@@ -105,36 +105,36 @@ fn asking(worlds: usize, principals: usize) -> Request {
     request
 }
 
-/// Fifteen notes in each of 31 worlds, then what follows from them asked for again and again.
-fn many_notes() -> Text {
+/// Fifteen notes in each of so many worlds, then what follows from them asked for again and again, `doublings` times twice over.
+fn many_notes(worlds: usize, doublings: usize) -> Text {
     let last = limits::PRINCIPALS - 1;
     let mut request = Request::new(limits::PRINCIPALS, 1);
     let top = request.add(Form::Top);
     let pairs: Vec<usize> = (0..last).map(|a| request.add(Form::Sf(a, a + 1))).collect();
     let chunk = pairs.iter().fold(top, |rest, pair| request.add(Form::And(*pair, rest)));
     let asked = request.add(Form::Sf(0, last));
-    let tree = (0..9).fold(asked, |part, _| request.add(Form::And(part, part)));
-    request.goal = (0..31).fold(tree, |goal, _| request.add(Form::Imp(chunk, goal)));
+    let tree = (0..doublings).fold(asked, |part, _| request.add(Form::And(part, part)));
+    request.goal = (0..worlds).fold(tree, |goal, _| request.add(Form::Imp(chunk, goal)));
     let notes = [Step::Split, Step::Note].repeat(pairs.len());
     let world = [vec![Step::Imp], notes, vec![Step::Drop]].concat();
-    let questions = (0..9).fold(vec![Step::Sf], |part, _| [vec![Step::And], part.repeat(2)].concat());
-    request.steps = [world.repeat(31), questions].concat();
-    request.wanting("h-many-notes", 0, 0)
+    let questions = (0..doublings).fold(vec![Step::Sf], |part, _| [vec![Step::And], part.repeat(2)].concat());
+    request.steps = [world.repeat(worlds), questions].concat();
+    request.wanting(format!("h-many-notes-{worlds}-worlds"), 0, 0)
 }
 
-/// 31 worlds made, forgotten and made again, over and over.
-fn many_worlds() -> Text {
+/// So many worlds made, forgotten and made again, over and over.
+fn many_worlds(worlds: usize) -> Text {
     let mut request = Request::new(limits::PRINCIPALS, 1);
     let top = request.add(Form::Top);
-    let tower = (0..31).fold(top, |body, height| request.add(Form::Says(height % limits::PRINCIPALS, body)));
-    let times = (limits::STEPS + 1) / 33;
+    let tower = (0..worlds).fold(top, |body, height| request.add(Form::Says(height % limits::PRINCIPALS, body)));
+    let times = (limits::STEPS + 1) / (worlds + 2);
     request.goal = (1..times).fold(tower, |rest, _| request.add(Form::And(tower, rest)));
-    let once = [vec![Step::Says; 31], vec![Step::Top]].concat();
+    let once = [vec![Step::Says; worlds], vec![Step::Top]].concat();
     for left in (0..times).rev() {
         request.steps.extend(vec![Step::And; usize::from(left > 0)]);
         request.steps.extend(&once);
     }
-    request.wanting("h-many-worlds", 0, 0)
+    request.wanting(format!("h-many-worlds-{worlds}"), 0, 0)
 }
 
 /// Eight `or` after each other, a `case` on each of them, a note in every branch.

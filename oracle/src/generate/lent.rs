@@ -161,7 +161,7 @@ fn fault_in_step(prng: &mut Prng, call: &mut Call) {
     match prng.below(3) {
         0 => entry[0] = prng.pick(&[18, 19, 255, 256, u16::MAX]),
         1 => entry[0] = prng.below(STEPS.len()) as u16,
-        _ => entry[1] = prng.pick(&[1, 2, 32, 256, u16::MAX]),
+        _ => entry[1] = prng.pick(&[1, 2, 32, 64, 256, u16::MAX]),
     }
 }
 
