@@ -111,10 +111,10 @@ unfolding demand
 class-go true test classes n f class e h = ap (λ (c : Bool). demand c 5 0) (sym (h (ltb-true f n e)))
 class-go false test classes n f class e h = refl
 
-line-refusal : (t : List ℕ) (n f : ℕ) → n ≤ mostFormulas →
+clause-refusal : (t : List ℕ) (n f : ℕ) → n ≤ mostFormulas →
     clauseRefusal (unpack formEntry n t) f ≡ classRefusal policyIn (classTable t n) n f
 unfolding clauseRefusal classRefusal
-line-refusal t n f h =
+clause-refusal t n f h =
     rw (unpack-length formEntry n t)
     (class-go (ltb f n) policyIn (classTable t n) n f (policyClass (unpack formEntry n t) f) refl (policy-at t n f h))
 
@@ -132,7 +132,7 @@ later-parts t h =
     let n = t .formulas in
     let forms = unpack formEntry n (t .formTable) in
     let classes = classTable (t .formTable) n in
-    ap (λ (line : ℕ → ℕ). asked t line (goalRefusal forms (t .goal))) (λ i f. line-refusal (t .formTable) n f h i) ∙
+    ap (λ (line : ℕ → ℕ). asked t line (goalRefusal forms (t .goal))) (λ i f. clause-refusal (t .formTable) n f h i) ∙
     ap (λ (goal : ℕ). asked t (classRefusal policyIn classes n) goal) (goal-refusal (t .formTable) n (t .goal) h)
   where
     asked : Lent → (ℕ → ℕ) → ℕ → List Answer

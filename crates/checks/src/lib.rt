@@ -95,12 +95,12 @@ fn check_forms(principals: u16, atoms: u16, count: u16, forms: &[u16]) -> Checke
     Checked::Fine
 }
 
-fn check_lines(classes: &[u8], formulas: u16, count: u16, policy: &[u16]) -> Checked
+fn check_clauses(classes: &[u8], formulas: u16, count: u16, policy: &[u16]) -> Checked
     ensures { λ r. ⌜ r ≡ metIn (policyAnswers (now (classes .entry)) formulas (unpack policyEntry count (now (policy .entry)))) ⌝ }
 {
     let mut i: u16 = 0;
     while i < count {
-        let number = rows::line_refusal(classes, formulas, common::entry_at(policy, i as usize));
+        let number = rows::clause_refusal(classes, formulas, common::entry_at(policy, i as usize));
         let line = answer_at(number, common::clause_at(formulas, i));
         let Checked::Fine = line else {
             return line;
@@ -172,7 +172,7 @@ fn check_policy(counts: Counts, classes: &[u8], policy: &[u16]) -> Checked
     let Checked::Fine = count else {
         return count;
     };
-    check_lines(classes, counts.formulas, counts.policy, policy)
+    check_clauses(classes, counts.formulas, counts.policy, policy)
 }
 
 // The goal and the count of steps, then the steps.

@@ -22,7 +22,7 @@ pub(crate) fn count_refusal(least: u16, most: u16, n: u16) -> u16
     0
 }
 
-pub(crate) fn line_refusal(classes: &[u8], formulas: u16, f: u16) -> u16
+pub(crate) fn clause_refusal(classes: &[u8], formulas: u16, f: u16) -> u16
     ensures { λ r. ⌜ r ≡ classRefusal policyIn (now (classes .entry)) formulas f ⌝ }
 {
     let class = common::byte_at(classes, f as usize);

@@ -35,7 +35,7 @@ fn put_clause(out: &mut [u8], at: usize, formula: u16) -> usize
     put_count(out, at, b"clause=", formula)
 }
 
-fn put_lines(out: &mut [u8], at: usize, count: u16, policy: &[u16]) -> usize
+fn put_clauses(out: &mut [u8], at: usize, count: u16, policy: &[u16]) -> usize
     requires { ⌜ at < 6000000 ⌝ }
     ensures { λ r. ⌜ Puts (now (out .entry)) at (manyText (lineText clauseLine) (unpack policyEntry count (now (policy .entry)))) (22 * count) (now (out .exit)) r ⌝ }
 {
@@ -86,7 +86,7 @@ fn put_policy(out: &mut [u8], at: usize, count: u16, policy: &[u16]) -> usize
     ensures { λ r. ⌜ Puts (now (out .entry)) at (policyText count (now (policy .entry))) (22 + 22 * count) (now (out .exit)) r ⌝ }
 {
     let next = put_count(out, at, b"clauses=", count);
-    put_lines(out, next, count, policy)
+    put_clauses(out, next, count, policy)
 }
 
 fn put_proof(out: &mut [u8], at: usize, goal: u16, count: u16, steps: &[u16]) -> usize

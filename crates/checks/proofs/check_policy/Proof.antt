@@ -29,7 +29,7 @@ returns-2 c =
     let g = c .before .before .before .answer-at in
     let e : g .result ≡ checkedOf count = rw (c .before .before .before .before .before .count-refusal .ensures, c .before .before .before .before .clauses-at .ensures) at (g .ensures) in
     let all = policyAnswers (a .classes .now) (n .formulas) (unpack policyEntry (n .policy) (a .policy .now)) in
-    c .check-lines .ensures ∙ one-go count all (g .result) e (c .before .enum-told .given .1)
+    c .check-clauses .ensures ∙ one-go count all (g .result) e (c .before .enum-told .given .1)
 
 pub check-policy-spec : {M : Type 1} → statement M
 check-policy-spec =

@@ -7,7 +7,7 @@ use Rattle.writer.proofs.sections.put_policy.Tie as tie
 
 returns : tie.Need-returns
 unfolding policyText
-returns c = puts-then (c .before .before .before .before .before .before .put-count .ensures) (c .before .before .put-lines .ensures)
+returns c = puts-then (c .before .before .before .before .before .before .put-count .ensures) (c .before .before .put-clauses .ensures)
 
 pub put-policy-spec : {M : Type 1} → statement M
 put-policy-spec =

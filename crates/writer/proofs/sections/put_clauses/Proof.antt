@@ -1,4 +1,4 @@
--- `writer::sections::put_lines` meets its contract: in turn i the lines of the first i are put, and line i stands behind them.
+-- `writer::sections::put_clauses` meets its contract: in turn i the lines of the first i are put, and line i stands behind them.
 use borrow.Author.Needs.{needs}
 use native.Mathlib.Omega.{arith}
 use Prim.Native.Nat.{_-_}
@@ -6,8 +6,8 @@ use Rattle.scope.specs.File.Text.{clauseLine}
 use Rattle.scope.specs.Call.Tables.{policyEntry}
 use Rattle.classes.specs.Rows.{number-at}
 use Rattle.writer.specs.Sections.{LinesPut, lines-none, lines-more, lines-all}
-use Rattle.writer.proofs.sections.put_lines.Statement.{statement}
-use Rattle.writer.proofs.sections.put_lines.Tie as tie
+use Rattle.writer.proofs.sections.put_clauses.Statement.{statement}
+use Rattle.writer.proofs.sections.put_clauses.Tie as tie
 
 abbrev Inv-loop : tie.InvT-loop
 Inv-loop out₀ at count policy end₀ i₀ out end i = LinesPut clauseLine policyEntry 22 count policy out₀ at i out end
@@ -22,8 +22,8 @@ loop-again c =
     let p = c .before .before .put-clause in
     lines-more (l .inv) (c .before .before .before .before .before .loop-test .taken) (number-at t 1 (l .i) 0 (l .i) (omega arith) (omega arith)) (rw (c .before .before .before .before .entry-at .ensures) at (p .ensures)) (p .kept .0)
 
-pub put-lines-spec : {M : Type 1} → statement M
-put-lines-spec =
+pub put-clauses-spec : {M : Type 1} → statement M
+put-clauses-spec =
     tie.close
     (tie.spec
     Inv-loop
