@@ -8,7 +8,7 @@ use Rattle.scope.specs.File.Line.{Value, val, out, Read, ok, bad}
 use Rattle.scope.specs.File.Reader.{Outcome, read, refused}
 use Rattle.scope.specs.Call.Answer.{Answer, answer}
 use Rattle.scope.specs.Call.Calls.{outcomeAnswer, noRequest, requestIn}
-use Rattle.common.specs.Answers.{answerOf, answerIs}
+use Rattle.common.specs.Answers.{answerOf, answerIs, answer-back}
 use Rattle.common.specs.declared.Counts.{Counts}
 use Rattle.common.specs.declared.Answer.{Answer as Returned}
 use Rattle.steps.specs.Steps.{stepFrom}
@@ -48,7 +48,7 @@ readingOf (refused a) = Reading.Refused (answerOf a)
 -- Document 01's number and values for each case: 0 at place 0 with the counts and the goal, or the refusal at its place with zeros.
 unfoldable pub answerIn : Reading → Answer
 answerIn (Reading.Read c) = answer 0 0
-answerIn (Reading.Refused r) = answer (r .refusal) (r .place)
+answerIn (Reading.Refused r) = answerIs r
 
 unfoldable pub countsIn : Reading → Counts
 countsIn (Reading.Read c) = c
@@ -57,12 +57,12 @@ countsIn (Reading.Refused r) = countsOf noRequest
 pub answers-same : (o : Outcome) → answerIn (readingOf o) ≡ outcomeAnswer o
 unfolding answerIn readingOf outcomeAnswer
 answers-same (read q) = refl
-answers-same (refused (answer k place)) = refl
+answers-same (refused z) = answer-back z
 
 pub counts-same : (o : Outcome) → countsIn (readingOf o) ≡ countsOf (requestIn o)
 unfolding countsIn readingOf requestIn
 counts-same (read q) = refl
-counts-same (refused (answer k place)) = refl
+counts-same (refused z) = refl
 
 -- Of one line.
 unfoldable pub numberLineOf : Value ℕ → NumberLine

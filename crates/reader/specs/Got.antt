@@ -1,13 +1,13 @@
 -- What an answer of the code says of the reading that it stands for.
 use Prim.Native.Nat.{ℕ, _-_}
-use mathlib.Core.Path.{_≡_, refl, ap, _∙_}
+use mathlib.Core.Path.{_≡_, refl, ap, sym, _∙_}
 use mathlib.Core.List.{List}
 use lib.ListN.{length, take, drop}
-use Rattle.scope.specs.Call.Answer.{answer}
+use Rattle.scope.specs.Call.Answer.{Answer}
 use Rattle.scope.specs.Tools.Tests.{never}
 use Rattle.scope.specs.File.Line.{Read, ok, bad, Reader}
 use Rattle.scope.specs.Call.Tables.{Entry, table}
-use Rattle.common.specs.Answers.{answerOf, answerIs}
+use Rattle.common.specs.Answers.{answerOf, answerIs, answer-back}
 use Rattle.lines.specs.Parts.{tail-part}
 use Rattle.common.specs.declared.Counts.{Counts}
 use Rattle.common.specs.declared.Answer.{Answer as Returned}
@@ -34,14 +34,14 @@ pub record Section-got {A : Type 0} (n : ℕ) (r : Read (List A)) (at : ℕ) : T
 pub section-got : {A : Type 0} (n : ℕ) (r : Read (List A)) (at : ℕ) → sectionOf n r ≡ Section.Read at → Section-got n r at
 unfolding sectionOf
 section-got n (ok xs rest) at e = record { things = xs; rest = rest; is = refl; place = cc }
-section-got n (bad (answer k i)) at e = never cc
+section-got n (bad z) at e = never cc
 
 pub section-lost : {A : Type 0} (n : ℕ) (r : Read (List A)) (x : Returned) → sectionOf n r ≡ Section.Refused x → r ≡ bad (answerIs x)
 unfolding sectionOf
 section-lost n (ok xs rest) x e = never cc
-section-lost {A} n (bad (answer k i)) x e =
-    let f : answerOf (answer k i) ≡ x = cc in
-    ap {B = Read (List A)} (λ (y : Returned). bad (answerIs y)) f
+section-lost {A} n (bad z) x e =
+    let f : answerOf z ≡ x = cc in
+    ap {B = Read (List A)} bad (sym (answer-back z) ∙ ap answerIs f)
 
 -- A section that was read, and its things in a table.
 pub record Section-kept {A : Type 0} (e : Entry A) (n : ℕ) (r : Read (List A)) : Type 0 where
@@ -68,12 +68,12 @@ part-got counts n (bad a) c at e = never cc
 pub part-lost : {A : Type 0} (counts : A → Counts) (n : ℕ) (r : Read A) (x : Returned) → partOf counts n r ≡ Part.Refused x → r ≡ bad (answerIs x)
 unfolding partOf
 part-lost counts n (ok a rest) x e = never cc
-part-lost {A} counts n (bad (answer k i)) x e =
-    let f : answerOf (answer k i) ≡ x = cc in
-    ap {B = Read A} (λ (y : Returned). bad (answerIs y)) f
+part-lost {A} counts n (bad z) x e =
+    let f : answerOf z ≡ x = cc in
+    ap {B = Read A} bad (sym (answer-back z) ∙ ap answerIs f)
 
-pub never-both : {A : Type 0} {X : Type 0} (r : Read A) (k i : ℕ) (a : A) (rest : List ℕ) → r ≡ bad (answer k i) → r ≡ ok a rest → X
-never-both r k i a rest e f = never cc
+pub never-both : {A : Type 0} {X : Type 0} (r : Read A) (z : Answer) (a : A) (rest : List ℕ) → r ≡ bad z → r ≡ ok a rest → X
+never-both r z a rest e f = never cc
 
 pub same-things : {A : Type 0} (r : Read A) (a b : A) (s t : List ℕ) → r ≡ ok a s → r ≡ ok b t → a ≡ b
 same-things r a b s t e f = cc
@@ -82,7 +82,7 @@ same-things r a b s t e f = cc
 module _ {A : Type 0} {X : A → List ℕ → Type 0} (counts : A → Counts) (n : ℕ) (r : Read A) (x : Returned) (e : r ≡ bad (answerIs x)) where
   pub part-refused : (p : Part) → p ≡ Part.Refused x → (p ≡ partOf counts n r) × ((a : A) (rest : List ℕ) → r ≡ ok a rest → X a rest)
   unfolding partOf
-  part-refused p d = (d ∙ rw e refl, λ a rest g. never-both r (x .refusal) (x .place) a rest e g)
+  part-refused p d = (d ∙ rw e refl, λ a rest g. never-both r (answerIs x) a rest e g)
 
 pub part-read : {A : Type 0} (counts : A → Counts) (n : ℕ) (r : Read A) (c : Counts) (at : ℕ) (a : A) (rest : List ℕ) → r ≡ ok a rest
     → c ≡ counts a → at ≡ n - length rest → Part.Read c at ≡ partOf counts n r

@@ -7,7 +7,7 @@ use mathlib.Core.Bool.{Bool, true, false}
 use lib.Dec.{ltb}
 use lib.ListN.{length, getD}
 use borrow.Author.Tests.{ltb-true}
-use Rattle.scope.specs.Call.Answer.{answer}
+use Rattle.scope.specs.Call.Answer.{Answer, answer}
 use Rattle.scope.specs.File.Bytes.{bytes}
 use Rattle.scope.specs.File.Number.{number}
 use Rattle.scope.specs.File.Request.{Row, goalClass, policyClass}
@@ -48,15 +48,15 @@ many-clause-ends cs n f = many-ends (classedItem cs n) f [] (λ b. line-ends _ _
 
 -- The formulas: the first four lines, then the `form=` lines.
 module _ (s : List ℕ) where
-  formulas-at-head : (k i : ℕ) → headPart s ≡ bad (answer k i) → formulasPart s ≡ bad (answer k i)
+  formulas-at-head : (z : Answer) → headPart s ≡ bad z → formulasPart s ≡ bad z
   unfolding formulasPart _>>=_ andThen
-  formulas-at-head k i e = rw e refl
+  formulas-at-head z e = rw e refl
 
-  formulas-at-forms : (h : Counted) (t : List ℕ) (k i : ℕ) → headPart s ≡ ok h t → many (formItem (h .principals) (h .atoms))
-      (h .formulas) [] t ≡ bad (answer k i)
-      → formulasPart s ≡ bad (answer k i)
+  formulas-at-forms : (h : Counted) (t : List ℕ) (z : Answer) → headPart s ≡ ok h t → many (formItem (h .principals) (h .atoms))
+      (h .formulas) [] t ≡ bad z
+      → formulasPart s ≡ bad z
   unfolding formulasPart _>>=_ andThen
-  formulas-at-forms h t k i e f = rw e (rw f refl)
+  formulas-at-forms h t z e f = rw e (rw f refl)
 
   formulas-whole : (h : Counted) (t : List ℕ) (forms : List Row) (rest : List ℕ) → headPart s ≡ ok h t
       → many (formItem (h .principals) (h .atoms)) (h .formulas) [] t ≡ ok forms rest
@@ -65,7 +65,7 @@ module _ (s : List ℕ) where
   formulas-whole h t forms rest e f = rw e (rw f refl)
 
   pub formulas-stopped : (x : Returned) → partOf headCounts (length s) (headPart s) ≡ Part.Refused x → formulasPart s ≡ bad (answerIs x)
-  formulas-stopped x e = formulas-at-head (x .refusal) (x .place) (part-lost headCounts (length s) (headPart s) x e)
+  formulas-stopped x e = formulas-at-head (answerIs x) (part-lost headCounts (length s) (headPart s) x e)
 
 -- The first four lines as the code has them.
 pub record Head-kept (s : List ℕ) : Type 0 where
@@ -100,7 +100,7 @@ module _ {s : List ℕ} (k : Head-kept s) where
   pub forms-stopped : (x : Returned) → sectionOf (length (behindHead k)) (formsRead k) ≡ Section.Refused x → formulasPart s ≡ bad
       (answerIs x)
   forms-stopped x m =
-      formulas-at-forms s (headRead .thing) (headRead .rest) (x .refusal) (x .place) (headRead .is)
+      formulas-at-forms s (headRead .thing) (headRead .rest) (answerIs x) (headRead .is)
       (sym same-forms ∙ section-lost (length (behindHead k)) (formsRead k) x m)
 
   module _ (m : Section-kept formEntry (length (behindHead k)) (formsRead k)) where
@@ -175,21 +175,21 @@ module _ (t : List ℕ) (n : ℕ) (small : n ≤ mostFormulas) where
 
 -- The policy: a count, that many `clause=` lines, the goal.
 module _ (forms : List Row) (s : List ℕ) where
-  policy-at-count : (k i : ℕ) → line clausesLine clausesRefusal (clausesAt (length forms)) s ≡ bad (answer k i) → policyPart forms s ≡ bad (answer k i)
+  policy-at-count : (z : Answer) → line clausesLine clausesRefusal (clausesAt (length forms)) s ≡ bad z → policyPart forms s ≡ bad z
   unfolding policyPart _>>=_ andThen
-  policy-at-count k i e = rw e refl
+  policy-at-count z e = rw e refl
 
-  policy-at-clauses : (c : ℕ) (t : List ℕ) (k i : ℕ) → line clausesLine clausesRefusal (clausesAt (length forms)) s ≡ ok c t → many
-      (clauseItem forms) c [] t ≡ bad (answer k i)
-      → policyPart forms s ≡ bad (answer k i)
+  policy-at-clauses : (c : ℕ) (t : List ℕ) (z : Answer) → line clausesLine clausesRefusal (clausesAt (length forms)) s ≡ ok c t → many
+      (clauseItem forms) c [] t ≡ bad z
+      → policyPart forms s ≡ bad z
   unfolding policyPart _>>=_ andThen
-  policy-at-clauses c t k i e f = rw e (rw f refl)
+  policy-at-clauses c t z e f = rw e (rw f refl)
 
-  policy-at-goal : (c : ℕ) (t : List ℕ) (policy u : List ℕ) (k i : ℕ) → line clausesLine clausesRefusal (clausesAt (length forms)) s ≡ ok c t
+  policy-at-goal : (c : ℕ) (t : List ℕ) (policy u : List ℕ) (z : Answer) → line clausesLine clausesRefusal (clausesAt (length forms)) s ≡ ok c t
       → many (clauseItem forms) c [] t ≡ ok policy u
-      → line goalLine (goalRefusal forms) (goalAt (length forms) (length policy)) u ≡ bad (answer k i) → policyPart forms s ≡ bad (answer k i)
+      → line goalLine (goalRefusal forms) (goalAt (length forms) (length policy)) u ≡ bad z → policyPart forms s ≡ bad z
   unfolding policyPart _>>=_ andThen
-  policy-at-goal c t policy u k i e f g = rw e (rw f (rw g refl))
+  policy-at-goal c t policy u z e f g = rw e (rw f (rw g refl))
 
   policy-whole : (c : ℕ) (t : List ℕ) (policy u : List ℕ) (goal : ℕ) (rest : List ℕ) → line clausesLine clausesRefusal
       (clausesAt (length forms)) s ≡ ok c t → many (clauseItem forms) c [] t ≡ ok policy u
@@ -206,7 +206,7 @@ pub clauses-stopped : (numbers : List ℕ) (n : ℕ) (s : List ℕ) (k : ℕ)
     → numberLineOf (shapedAs (countRefusal 0 mostPolicyLines) (number (valueOf (bytes "clauses=") s))) ≡ NumberLine.Refused k
     → policyPart (unpack formEntry n numbers) s ≡ bad (answer k (clausesAt n))
 clauses-stopped numbers n s k e =
-    policy-at-count (rows numbers n) s k (clausesAt n)
+    policy-at-count (rows numbers n) s (answer k (clausesAt n))
     (number-bad "clauses=" clausesRefusal (clausesAt (length (rows numbers n))) s k e ∙
     ap (λ j. bad (answer k (clausesAt j))) (unpack-length formEntry n numbers))
 
@@ -233,7 +233,7 @@ module _ {numbers : List ℕ} {n : ℕ} {s : List ℕ} (k : Clauses-kept numbers
   pub lines-stopped : (x : Returned) → sectionOf (length (k .rest)) (linesRead k) ≡ Section.Refused x → policyPart (unpack formEntry n numbers) s
       ≡ bad (answerIs x)
   lines-stopped x m =
-      policy-at-clauses (rows numbers n) s (k .count) (k .rest) (x .refusal) (x .place) first
+      policy-at-clauses (rows numbers n) s (k .count) (k .rest) (answerIs x) first
       (sym same-items ∙ section-lost (length (k .rest)) (linesRead k) x m)
 
   module _ (m : Section-kept policyEntry (length (k .rest)) (linesRead k)) where
@@ -265,7 +265,7 @@ module _ {numbers : List ℕ} {n : ℕ} {s : List ℕ} (k : Clauses-kept numbers
     goal-stopped j e =
         let place : goalAt (length (rows numbers n)) (length (linesGot .things)) ≡ goalAt n (k .count) = omega
         (arith, many-lines, unpack-length formEntry n numbers) in
-        policy-at-goal (rows numbers n) s (k .count) (k .rest) (linesGot .things) (linesGot .rest) j (goalAt n (k .count)) first (sym same-items ∙ linesGot .is)
+        policy-at-goal (rows numbers n) s (k .count) (k .rest) (linesGot .things) (linesGot .rest) (answer j (goalAt n (k .count))) first (sym same-items ∙ linesGot .is)
         (number-bad "goal=" (goalRefusal (rows numbers n)) (goalAt (length (rows numbers n)) (length (linesGot .things))) (linesGot .rest) j
         (goal-asked (NumberLine.Refused j) e) ∙ ap (λ h. bad (answer j h)) place)
 
@@ -307,9 +307,9 @@ module _ {numbers : List ℕ} {n : ℕ} {s : List ℕ} (k : Clauses-kept numbers
 
 -- The steps: a count, that many `step=` lines.
 module _ (formulas clauses : ℕ) (s : List ℕ) where
-  steps-at-count : (k i : ℕ) → line stepsLine stepsRefusal (stepsAt formulas clauses) s ≡ bad (answer k i) → stepsPart formulas clauses s ≡ bad (answer k i)
+  steps-at-count : (z : Answer) → line stepsLine stepsRefusal (stepsAt formulas clauses) s ≡ bad z → stepsPart formulas clauses s ≡ bad z
   unfolding stepsPart _>>=_ andThen
-  steps-at-count k i e = rw e refl
+  steps-at-count z e = rw e refl
 
   steps-whole : (c : ℕ) (t : List ℕ) → line stepsLine stepsRefusal (stepsAt formulas clauses) s ≡ ok c t → stepsPart formulas clauses s ≡ many
       (stepItem formulas clauses) c [] t
@@ -318,7 +318,7 @@ module _ (formulas clauses : ℕ) (s : List ℕ) where
 
   pub steps-stopped : (k : ℕ) → numberLineOf (shapedAs (countRefusal 1 mostSteps) (number (valueOf (bytes "steps=") s))) ≡ NumberLine.Refused k
       → stepsPart formulas clauses s ≡ bad (answer k (stepsAt formulas clauses))
-  steps-stopped k e = steps-at-count k (stepsAt formulas clauses) (number-bad "steps=" stepsRefusal (stepsAt formulas clauses) s k e)
+  steps-stopped k e = steps-at-count (answer k (stepsAt formulas clauses)) (number-bad "steps=" stepsRefusal (stepsAt formulas clauses) s k e)
 
 -- The count of steps and the text behind it, as the code has them.
 pub record Steps-counted (formulas clauses : ℕ) (s : List ℕ) : Type 0 where

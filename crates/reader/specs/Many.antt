@@ -8,7 +8,7 @@ use lib.Dec.{ltb}
 use lib.ListN.{length, take, drop, length-append, take-append-drop}
 use lib.Seq.{drop-at}
 use borrow.Author.Tests.{ltb-true, ltb-false}
-use Rattle.scope.specs.Call.Answer.{answer}
+use Rattle.scope.specs.Call.Answer.{Answer}
 use Rattle.scope.specs.Tools.Tests.{never}
 use Rattle.scope.specs.File.Line.{Line, Read, ok, bad, Reader, Cut, parts, uncut, cut, Value, val, out, valued, placed, lineOf, line, strip, andThen, _>>=_, many, done}
 use Rattle.lines.specs.Parts.{upTo, cut-found, cut-none, restOf, lineRest}
@@ -16,7 +16,7 @@ use Rattle.lines.specs.Parts.{upTo, cut-found, cut-none, restOf, lineRest}
 -- Things read before those that a reading gives.
 unfoldable pub onto : {A : Type 0} → List A → Read (List A) → Read (List A)
 onto before (ok more rest) = ok (before ++ more) rest
-onto before (bad (answer k i)) = bad (answer k i)
+onto before (bad z) = bad z
 
 module _ {A : Type 0} (item : List A → Reader A) where
   pub many-more : (m : ℕ) (before : List A) (s rest : List ℕ) (a : A) → item before s ≡ ok a rest
@@ -26,11 +26,11 @@ module _ {A : Type 0} (item : List A → Reader A) where
     where
       go : (r : Read (List A)) → onto before (andThen r (λ more. done (a ∷ more))) ≡ onto (before ++ (a ∷ [])) r
       go (ok more t) = ap (λ l. ok l t) (sym (append-assoc before (a ∷ []) more))
-      go (bad (answer k i)) = refl
+      go (bad z) = refl
 
-  pub many-stop : (m : ℕ) (before : List A) (s : List ℕ) (k i : ℕ) → item before s ≡ bad (answer k i) → onto before (many item (suc m) before s) ≡ bad (answer k i)
+  pub many-stop : (m : ℕ) (before : List A) (s : List ℕ) (z : Answer) → item before s ≡ bad z → onto before (many item (suc m) before s) ≡ bad z
   unfolding many _>>=_ andThen onto
-  many-stop m before s k i e = rw e refl
+  many-stop m before s z e = rw e refl
 
   pub many-end : (before : List A) (s : List ℕ) → onto before (many item zero before s) ≡ ok before s
   unfolding many onto
@@ -42,7 +42,7 @@ module _ {A : Type 0} (item : List A → Reader A) where
     where
       go : (r : Read (List A)) → r ≡ onto [] r
       go (ok more t) = refl
-      go (bad (answer k i)) = refl
+      go (bad z) = refl
 
   pub many-length : (n : ℕ) (before : List A) (s : List ℕ) (xs : List A) (rest : List ℕ) → many item n before s ≡ ok xs rest → length xs ≡ n
   unfolding many _>>=_ andThen
@@ -52,12 +52,12 @@ module _ {A : Type 0} (item : List A → Reader A) where
       later : (a : A) (r : Read (List A)) → ((ys : List A) (t : List ℕ) → r ≡ ok ys t → length ys ≡ n) → andThen r (λ more. done (a ∷ more))
           ≡ ok xs rest → length xs ≡ suc n
       later a (ok ys t) f e = let g : xs ≡ a ∷ ys = cc in rw g (ap suc (f ys t refl))
-      later a (bad (answer k i)) f e = never cc
+      later a (bad z) f e = never cc
 
       go : ((b : List A) (t : List ℕ) (ys : List A) (u : List ℕ) → many item n b t ≡ ok ys u → length ys ≡ n) → (r : Read A)
           → andThen r (λ a. _>>=_ (many item n (before ++ (a ∷ []))) (λ more. done (a ∷ more))) ≡ ok xs rest → length xs ≡ suc n
       go f (ok a t) e = later a (many item n (before ++ (a ∷ [])) t) (f (before ++ (a ∷ [])) t) e
-      go f (bad (answer k i)) e = never cc
+      go f (bad z) e = never cc
 
 -- What is left of a text stands at its end.
 pub record Tail (rest s : List ℕ) : Type 0 where
@@ -115,7 +115,7 @@ seq-ends {A} {B} m f p q = record { ends = λ s b rest e. go s b rest (m s) refl
   where
     go : (s : List ℕ) (b : B) (rest : List ℕ) (r : Read A) → m s ≡ r → andThen r f ≡ ok b rest → Tail rest s
     go s b rest (ok a t) g e = tail-more (q a .ends t b rest e) (p .ends s a t g)
-    go s b rest (bad (answer k i)) g e = never cc
+    go s b rest (bad z) g e = never cc
 
 pub many-ends : {A : Type 0} (item : List A → Reader A) (n : ℕ) (before : List A) → ((b : List A) → Ends (item b)) → Ends (many item n before)
 unfolding many

@@ -7,7 +7,7 @@ use mathlib.Core.Bool.{Bool, true, false}
 use lib.ListN.{length, replicate}
 use lib.Dec.{leb}
 use borrow.Author.Tests.{leb-true, le-leb, lt-leb}
-use Rattle.scope.specs.Call.Answer.{answer}
+use Rattle.scope.specs.Call.Answer.{Answer, answer}
 use Rattle.scope.specs.Tools.Tests.{never}
 use Rattle.scope.specs.Logic.Form.{both}
 use Rattle.scope.specs.File.Request.{Row, Request}
@@ -16,7 +16,7 @@ use Rattle.scope.specs.Limits.{mostBytes, mostFormulas, mostPolicyLines, mostSt
 use Rattle.scope.specs.File.Reader.{Outcome, read, refused, ended, readRequest}
 use Rattle.scope.specs.Call.Tables.{formEntry, policyEntry, stepEntry, table, unpack, hasRoom}
 use Rattle.scope.specs.Call.Calls.{reading, requestIn, formTableAfter, policyTableAfter, stepTableAfter}
-use Rattle.common.specs.Answers.{answerOf, answerIs}
+use Rattle.common.specs.Answers.{answerOf, answerIs, answer-back}
 use Rattle.common.specs.declared.Counts.{Counts}
 use Rattle.common.specs.declared.Answer.{Answer as Returned}
 use Rattle.reader.specs.Sections.{Formulas, PolicyRead, formulasPart, policyPart, stepsPart}
@@ -29,16 +29,16 @@ use Rattle.reader.specs.declared.Reading.the-variants as Reading
 use Rattle.reader.specs.declared.Part.the-variants as Part
 
 -- Refused or read, an outcome is one of the two.
-outcome-never : {X : Type 0} (o : Outcome) (k i : ℕ) (q : Request) → o ≡ refused (answer k i) → o ≡ read q → X
-outcome-never o k i q e f = never cc
+outcome-never : {X : Type 0} (o : Outcome) (z : Answer) (q : Request) → o ≡ refused z → o ≡ read q → X
+outcome-never o z q e f = never cc
 
 same-request : (o : Outcome) (p q : Request) → o ≡ read p → o ≡ read q → p ≡ q
 same-request o p q e f = cc
 
 module _ (t : List ℕ) where
-  read-refused : (k i : ℕ) → sections t ≡ bad (answer k i) → readRequest t ≡ refused (answer k i)
+  read-refused : (z : Answer) → sections t ≡ bad z → readRequest t ≡ refused z
   unfolding readRequest ended
-  read-refused k i e = rw (request-sections t, e) refl
+  read-refused z e = rw (request-sections t, e) refl
 
   read-over : (q : Request) (v : List ℕ) → sections t ≡ ok q v → 0 < length v → readRequest t ≡ refused (answer 6
       (endAt (length (q .forms)) (length (q .policy)) (length (q .steps))))
@@ -51,19 +51,19 @@ module _ (t : List ℕ) where
   read-whole q [] e h = rw (request-sections t, e) refl
   read-whole q (b ∷ v) e h = absurd (omega arith)
 
-  file-at-formulas : (k i : ℕ) → formulasPart t ≡ bad (answer k i) → sections t ≡ bad (answer k i)
+  file-at-formulas : (z : Answer) → formulasPart t ≡ bad z → sections t ≡ bad z
   unfolding sections _>>=_ andThen
-  file-at-formulas k i a = rw a refl
+  file-at-formulas z a = rw a refl
 
   module _ (f : Formulas) (s : List ℕ) (a : formulasPart t ≡ ok f s) where
-    file-at-policy : (k i : ℕ) → policyPart (f .forms) s ≡ bad (answer k i) → sections t ≡ bad (answer k i)
+    file-at-policy : (z : Answer) → policyPart (f .forms) s ≡ bad z → sections t ≡ bad z
     unfolding sections _>>=_ andThen
-    file-at-policy k i b = rw a (rw b refl)
+    file-at-policy z b = rw a (rw b refl)
 
     module _ (p : PolicyRead) (u : List ℕ) (b : policyPart (f .forms) s ≡ ok p u) where
-      file-at-steps : (k i : ℕ) → stepsPart (length (f .forms)) (length (p .policy)) u ≡ bad (answer k i) → sections t ≡ bad (answer k i)
+      file-at-steps : (z : Answer) → stepsPart (length (f .forms)) (length (p .policy)) u ≡ bad z → sections t ≡ bad z
       unfolding sections _>>=_ andThen
-      file-at-steps k i c = rw a (rw b (rw c refl))
+      file-at-steps z c = rw a (rw b (rw c refl))
 
       file-whole : (rows : List Row) (v : List ℕ) → stepsPart (length (f .forms)) (length (p .policy)) u ≡ ok rows v → sections t ≡ ok
           (requestWith f p rows) v
@@ -72,7 +72,7 @@ module _ (t : List ℕ) where
 
   pub formulas-end : (x : Returned) → partOf formulasCounts (length t) (formulasPart t) ≡ Part.Refused x → readRequest t ≡ refused (answerIs x)
   formulas-end x e =
-      read-refused (x .refusal) (x .place) (file-at-formulas (x .refusal) (x .place) (part-lost formulasCounts (length t) (formulasPart t) x e))
+      read-refused (answerIs x) (file-at-formulas (answerIs x) (part-lost formulasCounts (length t) (formulasPart t) x e))
 
 -- The formulas, the policy and the steps of a text as the calls that read them left them: the counts, where the next begins, and the table.
 pub record Formulas-kept (t : List ℕ) : Type 0 where
@@ -137,8 +137,8 @@ module _ {t : List ℕ} (k : Formulas-kept t) where
   pub policy-end : (x : Returned) → partOf (policyCounts (k .counts)) (length (behindFormulas k)) (policyRead k) ≡ Part.Refused x → readRequest t
       ≡ refused (answerIs x)
   policy-end x d =
-      read-refused t (x .refusal) (x .place)
-      (file-at-policy t (fg .thing) (fg .rest) (fg .is) (x .refusal) (x .place)
+      read-refused t (answerIs x)
+      (file-at-policy t (fg .thing) (fg .rest) (fg .is) (answerIs x)
       (sym same-policy ∙ part-lost (policyCounts (k .counts)) (length (behindFormulas k)) (policyRead k) x d))
 
   module _ (p : Policy-kept k) where
@@ -164,8 +164,8 @@ module _ {t : List ℕ} (k : Formulas-kept t) where
     pub steps-end : (x : Returned) → partOf (stepsCounts (p .counts)) (length (behindPolicy p)) (stepsRead p) ≡ Part.Refused x → readRequest t
         ≡ refused (answerIs x)
     steps-end x h =
-        read-refused t (x .refusal) (x .place)
-        (file-at-steps t (fg .thing) (fg .rest) (fg .is) (pg .thing) (pg .rest) (sym same-policy ∙ pg .is) (x .refusal) (x .place)
+        read-refused t (answerIs x)
+        (file-at-steps t (fg .thing) (fg .rest) (fg .is) (pg .thing) (pg .rest) (sym same-policy ∙ pg .is) (answerIs x)
         (sym same-steps ∙ part-lost (stepsCounts (p .counts)) (length (behindPolicy p)) (stepsRead p) x h))
 
     module _ (s : Steps-kept p) where
@@ -228,17 +228,17 @@ pub refused-all : {A B C : Request → Type 0} (o : Outcome) (x y : Returned) �
 refused-all o x y r e = (
   ap Reading.Refused r ∙ refused-answer o x e,
   (
-    (λ q z. outcome-never o (x .refusal) (x .place) q e z),
-    ((λ q z. outcome-never o (x .refusal) (x .place) q e z), (λ q z. outcome-never o (x .refusal) (x .place) q e z)),
+    (λ q z. outcome-never o (answerIs x) q e z),
+    ((λ q z. outcome-never o (answerIs x) q e z), (λ q z. outcome-never o (answerIs x) q e z)),
   ),
 )
 
 pub refused-outcome : (o : Outcome) (x : Returned) → readingOf o ≡ Reading.Refused x → o ≡ refused (answerIs x)
 unfolding readingOf
 refused-outcome (read q) x e = never cc
-refused-outcome (refused (answer k i)) x e =
-    let f : answerOf (answer k i) ≡ x = cc in
-    ap (λ (y : Returned). refused (answerIs y)) f
+refused-outcome (refused z) x e =
+    let f : answerOf z ≡ x = cc in
+    ap refused (sym (answer-back z) ∙ ap answerIs f)
 
 pub record Read-outcome (o : Outcome) : Type 0 where
   pub request : Request
@@ -247,7 +247,7 @@ pub record Read-outcome (o : Outcome) : Type 0 where
 pub read-outcome : (o : Outcome) (c : Counts) → readingOf o ≡ Reading.Read c → Read-outcome o
 unfolding readingOf
 read-outcome (read q) c e = record { request = q; is = refl }
-read-outcome (refused (answer k i)) c e = never cc
+read-outcome (refused z) c e = never cc
 
 -- 'Order: 13, 1, then lines in order.'
 module _ (forms policy steps : ℕ) (s : List ℕ) where
@@ -265,17 +265,17 @@ module _ (forms policy steps : ℕ) (s : List ℕ) where
 
 -- The tables after a refusal, and after a request was read.
 module _ (len : ℕ) (o : Outcome) where
-  forms-zero : (k i : ℕ) → o ≡ refused (answer k i) → replicate len 0 ≡ formTableAfter len o
+  forms-zero : (z : Answer) → o ≡ refused z → replicate len 0 ≡ formTableAfter len o
   unfolding formTableAfter requestIn
-  forms-zero k i e = rw e (sym (table-none formEntry len))
+  forms-zero z e = rw e (sym (table-none formEntry len))
 
-  lines-zero : (k i : ℕ) → o ≡ refused (answer k i) → replicate len 0 ≡ policyTableAfter len o
+  lines-zero : (z : Answer) → o ≡ refused z → replicate len 0 ≡ policyTableAfter len o
   unfolding policyTableAfter requestIn
-  lines-zero k i e = rw e (sym (table-none policyEntry len))
+  lines-zero z e = rw e (sym (table-none policyEntry len))
 
-  steps-zero : (k i : ℕ) → o ≡ refused (answer k i) → replicate len 0 ≡ stepTableAfter len o
+  steps-zero : (z : Answer) → o ≡ refused z → replicate len 0 ≡ stepTableAfter len o
   unfolding stepTableAfter requestIn
-  steps-zero k i e = rw e (sym (table-none stepEntry len))
+  steps-zero z e = rw e (sym (table-none stepEntry len))
 
   pub forms-stored : (q : Request) → o ≡ read q → table formEntry len (q .forms) ≡ formTableAfter len o
   unfolding formTableAfter requestIn
@@ -301,8 +301,8 @@ pub record Cleared (forms policy steps : ℕ) : Type 0 where
 pub tables-zero : {forms policy steps : ℕ} (k : Cleared forms policy steps) (o : Outcome) (x : Returned) → o ≡ refused (answerIs x)
     → (k .formTable ≡ formTableAfter forms o) × ((k .policyTable ≡ policyTableAfter policy o) × (k .stepTable ≡ stepTableAfter steps o))
 tables-zero {forms} {policy} {steps} k o x e = (
-  k .formsClear ∙ forms-zero forms o (x .refusal) (x .place) e,
-  (k .linesClear ∙ lines-zero policy o (x .refusal) (x .place) e, k .stepsClear ∙ steps-zero steps o (x .refusal) (x .place) e),
+  k .formsClear ∙ forms-zero forms o (answerIs x) e,
+  (k .linesClear ∙ lines-zero policy o (answerIs x) e, k .stepsClear ∙ steps-zero steps o (answerIs x) e),
 )
 
 -- Room for the largest counts.

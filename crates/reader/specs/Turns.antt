@@ -6,7 +6,7 @@ use native.Mathlib.Omega.{arith}
 use mathlib.Core.Path.{_≡_, refl, ap, sym, subst, _∙_}
 use mathlib.Core.List.{List, [], _∷_, _++_}
 use lib.ListN.{length, set, replicate, length-append, length-set}
-use Rattle.scope.specs.Call.Answer.{answer}
+use Rattle.scope.specs.Call.Answer.{Answer, answer}
 use Rattle.scope.specs.File.Bytes.{bytes}
 use Rattle.scope.specs.File.Number.{number}
 use Rattle.scope.specs.File.Request.{Row}
@@ -17,6 +17,7 @@ use Rattle.scope.specs.Limits.{versionAt, principalsAt, atomsAt, formulasAt, fo
 use Rattle.scope.specs.File.Refusals.{rowRefusal, formRefusal, stepRefusal, versionRefusal, principalsRefusal, atomsRefusal, formulasRefusal}
 use Rattle.scope.specs.File.Text.{versionLine, principalsLine, atomsLine, formulasLine}
 use Rattle.scope.specs.File.Reader.{formItem, stepItem}
+use Rattle.common.specs.Answers.{answerOf}
 use Rattle.classes.specs.Class.{policyIn}
 use Rattle.lines.specs.Parts.{valueOf, restOf}
 use Rattle.lines.specs.Values.{Behind}
@@ -45,10 +46,10 @@ rest-short s rest e = omega (arith, ap length e, tail-length (restOf s) s (rest-
 
 -- The answer of a section, and what it says of the things read.
 module _ {A : Type 0} (n : ℕ) (r : Read (List A)) where
-  section-refused : {X : List A → List ℕ → Type 0} (k i : ℕ) → r ≡ bad (answer k i) → (x : Returned) → x ≡ refusalIs k i
+  section-refused : {X : List A → List ℕ → Type 0} (z : Answer) → r ≡ bad z → (x : Returned) → x ≡ answerOf z
       → (Section.Refused x ≡ sectionOf n r) × ((xs : List A) (rest : List ℕ) → r ≡ ok xs rest → X xs rest)
   unfolding sectionOf
-  section-refused k i e x d = (ap Section.Refused d ∙ rw e refl, λ xs rest f. never-both r k i xs rest e f)
+  section-refused z e x d = (ap Section.Refused d ∙ rw e refl, λ xs rest f. never-both r z xs rest e f)
 
   section-read : (entry : Entry A) (len : ℕ) (numbers : List ℕ) (xs : List A) (rest : List ℕ) → r ≡ ok xs rest → numbers ≡ table entry len xs
       → (Section.Read (n - length rest) ≡ sectionOf n r) × ((ys : List A) (over : List ℕ) → r ≡ ok ys over → numbers ≡ table entry len ys)
@@ -93,12 +94,12 @@ module _ {A : Type 0} (entry : Entry A) (item : List A → Reader A) (n : ℕ) (
           let f : n - i ≡ suc (n - (i + 1)) = omega arith in
           k .whole ∙ ap (λ m. onto (k .before) (many item m (k .before) rest)) f
 
-      turn-stops : {X : List A → List ℕ → Type 0} (j place : ℕ) → item (k .before) rest ≡ bad (answer j place) → (x : Returned) → x ≡ refusalIs j place
+      turn-stops : {X : List A → List ℕ → Type 0} (z : Answer) → item (k .before) rest ≡ bad z → (x : Returned) → x ≡ answerOf z
           → (Section.Refused x ≡ sectionOf (length text) (many item n [] text)) ×
           ((xs : List A) (over : List ℕ) → many item n [] text ≡ ok xs over → X xs over)
-      turn-stops j place e x d =
-          section-refused (length text) (many item n [] text) j place
-          (one-turn ∙ many-stop item (n - (i + 1)) (k .before) rest j place e) x d
+      turn-stops z e x d =
+          section-refused (length text) (many item n [] text) z
+          (one-turn ∙ many-stop item (n - (i + 1)) (k .before) rest z e) x d
 
       turn-more : (a : A) (m : ℕ) → Behind rest m → item (k .before) rest ≡ ok a (partFrom m rest) → (andThen : List ℕ)
           → length andThen ≡ length numbers
@@ -137,7 +138,7 @@ module _ (principals atoms : ℕ) {n : ℕ} {text : List ℕ} {len : ℕ} {numbe
       ((rows : List Row) (over : List ℕ) → many (formItem principals atoms) n [] text ≡ ok rows over → X rows over)
   unfolding formRefusal
   form-stops j e x d =
-      turn-stops formEntry (formItem principals atoms) n text k h j (formAt i)
+      turn-stops formEntry (formItem principals atoms) n text k h (answer j (formAt i))
       (row-bad "form=" formKinds (formRefusal principals atoms (k .before)) s (q .value) (q .part) no-form (formAt (length (k .before))) j
       (at-length (out j) (out-row (shapedAs (rowRefusal formKinds principals atoms i) (rowIn formKinds (q .value))) j (sym (q .about) ∙ e))) ∙
       ap (λ m. bad (answer j (formAt m))) (k .count)) x d
@@ -171,7 +172,7 @@ module _ (classes : List ℕ) (formulas : ℕ) {n : ℕ} {text : List ℕ} {len 
       → (Section.Refused x ≡ sectionOf (length text) (many (classedItem classes formulas) n [] text)) ×
       ((policy : List ℕ) (over : List ℕ) → many (classedItem classes formulas) n [] text ≡ ok policy over → X policy over)
   clause-stops j e x d =
-      turn-stops policyEntry (classedItem classes formulas) n text k h j (clauseAt formulas i)
+      turn-stops policyEntry (classedItem classes formulas) n text k h (answer j (clauseAt formulas i))
       (value-bad "clause=" (classRefusal policyIn classes formulas) s (q .value) (q .part) (clauseAt formulas (length (k .before))) j
       (sym (q .about) ∙ e) ∙ ap (λ m. bad (answer j (clauseAt formulas m))) (k .count)) x d
 
@@ -199,7 +200,7 @@ module _ (formulas clauses : ℕ) {n : ℕ} {text : List ℕ} {len : ℕ} {numbe
       ((rows : List Row) (over : List ℕ) → many (stepItem formulas clauses) n [] text ≡ ok rows over → X rows over)
   step-stops j e x d =
       let place : stepAt formulas clauses (suc (length (k .before))) ≡ stepAt formulas clauses (suc i) = omega (arith, k .count) in
-      turn-stops stepEntry (stepItem formulas clauses) n text k h j (stepAt formulas clauses (suc i))
+      turn-stops stepEntry (stepItem formulas clauses) n text k h (answer j (stepAt formulas clauses (suc i)))
       (row-bad "step=" stepKinds stepRefusal s (q .value) (q .part) no-step (stepAt formulas clauses (suc (length (k .before)))) j
       (out-step (shapedAs stepRefusal (rowIn stepKinds (q .value))) j (sym (q .about) ∙ e)) ∙ ap (λ m. bad (answer j m)) place) x d
 
@@ -222,24 +223,24 @@ module _ (formulas clauses : ℕ) {n : ℕ} {text : List ℕ} {len : ℕ} {numbe
 
 -- The first four lines.
 module _ (s : List ℕ) where
-  pub head-at-version : (k i : ℕ) → line versionLine versionRefusal versionAt s ≡ bad (answer k i) → headPart s ≡ bad (answer k i)
+  pub head-at-version : (z : Answer) → line versionLine versionRefusal versionAt s ≡ bad z → headPart s ≡ bad z
   unfolding headPart _>>=_ andThen
-  head-at-version k i a = rw a refl
+  head-at-version z a = rw a refl
 
   module _ (v : ℕ) (s₁ : List ℕ) (a : line versionLine versionRefusal versionAt s ≡ ok v s₁) where
-    pub head-at-principals : (k i : ℕ) → line principalsLine principalsRefusal principalsAt s₁ ≡ bad (answer k i) → headPart s ≡ bad (answer k i)
+    pub head-at-principals : (z : Answer) → line principalsLine principalsRefusal principalsAt s₁ ≡ bad z → headPart s ≡ bad z
     unfolding headPart _>>=_ andThen
-    head-at-principals k i b = rw a (rw b refl)
+    head-at-principals z b = rw a (rw b refl)
 
     module _ (p : ℕ) (s₂ : List ℕ) (b : line principalsLine principalsRefusal principalsAt s₁ ≡ ok p s₂) where
-      pub head-at-atoms : (k i : ℕ) → line atomsLine atomsRefusal atomsAt s₂ ≡ bad (answer k i) → headPart s ≡ bad (answer k i)
+      pub head-at-atoms : (z : Answer) → line atomsLine atomsRefusal atomsAt s₂ ≡ bad z → headPart s ≡ bad z
       unfolding headPart _>>=_ andThen
-      head-at-atoms k i c = rw a (rw b (rw c refl))
+      head-at-atoms z c = rw a (rw b (rw c refl))
 
       module _ (n : ℕ) (s₃ : List ℕ) (c : line atomsLine atomsRefusal atomsAt s₂ ≡ ok n s₃) where
-        pub head-at-formulas : (k i : ℕ) → line formulasLine formulasRefusal formulasAt s₃ ≡ bad (answer k i) → headPart s ≡ bad (answer k i)
+        pub head-at-formulas : (z : Answer) → line formulasLine formulasRefusal formulasAt s₃ ≡ bad z → headPart s ≡ bad z
         unfolding headPart _>>=_ andThen
-        head-at-formulas k i d = rw a (rw b (rw c (rw d refl)))
+        head-at-formulas z d = rw a (rw b (rw c (rw d refl)))
 
         pub head-whole : (f : ℕ) (s₄ : List ℕ) → line formulasLine formulasRefusal formulasAt s₃ ≡ ok f s₄
             → headPart s ≡ ok record { principals = p; atoms = n; formulas = f } s₄
@@ -247,9 +248,9 @@ module _ (s : List ℕ) where
         head-whole f s₄ d = rw a (rw b (rw c (rw d refl)))
 
 module _ (n : ℕ) (r : Read Counted) where
-  pub head-refused : (k i : ℕ) → r ≡ bad (answer k i) → Part.Refused (refusalIs k i) ≡ partOf headCounts n r
+  pub head-refused : (z : Answer) → r ≡ bad z → Part.Refused (answerOf z) ≡ partOf headCounts n r
   unfolding partOf
-  head-refused k i e = rw e refl
+  head-refused z e = rw e refl
 
   pub head-read : (p a f : ℕ) (rest : List ℕ) → r ≡ ok record { principals = p; atoms = a; formulas = f } rest → Part.Read
       record { principals = p; atoms = a; formulas = f; policy = 0; goal = 0; steps = 0 } (n - length rest) ≡ partOf headCounts n r

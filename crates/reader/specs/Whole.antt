@@ -3,7 +3,6 @@ use Prim.Native.Nat.{ℕ}
 use mathlib.Core.Path.{_≡_, refl, sym, _∙_}
 use mathlib.Core.List.{List, []}
 use lib.ListN.{length}
-use Rattle.scope.specs.Call.Answer.{answer}
 use Rattle.scope.specs.File.Request.{Row, Request}
 use Rattle.scope.specs.File.Line.{Read, ok, bad, Reader, line, many, counted, done, andThen, _>>=_}
 use Rattle.scope.specs.File.Refusals.{versionRefusal, principalsRefusal, atomsRefusal, formulasRefusal, clausesRefusal, goalRefusal}
@@ -16,7 +15,7 @@ use Rattle.reader.specs.Many.{Ends, done-ends, line-ends, seq-ends, many
 after-assoc : {A B C : Type 0} (r : Read A) (f : A → Reader B) (g : B → Reader C) → andThen (andThen r f) g ≡ andThen r (λ a s. andThen (f a s) g)
 unfolding andThen
 after-assoc (ok a s) f g = refl
-after-assoc (bad (answer k i)) f g = refl
+after-assoc (bad z) f g = refl
 
 abbrev pub requestWith : Formulas → PolicyRead → List Row → Request
 requestWith f p steps =
