@@ -24,7 +24,7 @@ fn read_into(tables: &mut Tables, file: &[u8]) -> Result<Counts, Refusal> {
 fn reads_judges_and_writes_back() {
     let mut t = lent();
     let counts = read_into(&mut t, GRANTED).expect("it reads");
-    assert_eq!(counts, Counts { principals: 2, atoms: 1, formulas: 5, lines: 3, goal: 0, steps: 7 });
+    assert_eq!(counts, Counts { principals: 2, atoms: 1, formulas: 5, policy: 3, goal: 0, steps: 7 });
     assert_eq!(t.policy[..5], [2, 3, 4, 0, 0]);
     assert_eq!(judge(counts, &t.forms, &t.policy, &t.steps), Ok(()));
     let mut out = vec![7; GRANTED.len() + 2];
