@@ -6,8 +6,7 @@ use Rattle.refusals.specs.Rows.{classRefusal}
 use Rattle.scope.specs.File.Request.{Row}
 use Rattle.scope.specs.Call.Answer.{Answer, answer}
 use Rattle.scope.specs.Limits.{principalsAt, atomsAt, formulasAt, formAt, clauseAt, goalAt, stepsAt, stepAt}
-use Rattle.scope.specs.File.Refusals.{demand, principalsRefusal, atomsRefusal, formulasRefusal, stepsRefusal, stepRefusal, rowRefusal}
-use Rattle.scope.specs.File.Kinds.{formKinds}
+use Rattle.scope.specs.File.Refusals.{demand, principalsRefusal, atomsRefusal, formulasRefusal, stepsRefusal, stepRefusal, formRefusal}
 use Rattle.scope.specs.Call.Checked.{eachOf}
 use Rattle.scope.specs.Call.Tables.{hasRoom}
 use Rattle.classes.specs.Class.{goalIn, policyIn}
@@ -22,12 +21,12 @@ countAnswers principals atoms formulas =
     answer (formulasRefusal formulas) formulasAt ∷
     []
 
--- The answer about a row that is formula number i.
-abbrev pub formAnswer : ℕ → ℕ → ℕ → Row → Answer
-formAnswer principals atoms i r = answer (rowRefusal formKinds principals atoms i r) (formAt i)
+-- The answer about the row of a formula behind those before it.
+abbrev pub formAnswer : ℕ → ℕ → List Row → Row → Answer
+formAnswer principals atoms before r = answer (formRefusal principals atoms before r) (formAt (length before))
 
 unfoldable pub formAnswers : ℕ → ℕ → List Row → List Answer
-formAnswers principals atoms rows = eachOf (λ before r. formAnswer principals atoms (length before) r) [] rows
+formAnswers principals atoms rows = eachOf (formAnswer principals atoms) [] rows
 
 unfoldable pub policyAnswers : List ℕ → ℕ → List ℕ → List Answer
 policyAnswers classes formulas fs =

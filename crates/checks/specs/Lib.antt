@@ -3,3 +3,4 @@ pub mod MetLaws
 pub mod Answers
 pub mod Sections
 pub mod Whole
+pub mod FormTurns

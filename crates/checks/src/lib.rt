@@ -4,15 +4,21 @@ ghost use mathlib.Core.Path.{_≡_};
 ghost use mathlib.Core.List.{[]};
 ghost use lib.ListN.{drop};
 ghost use Rattle.scope.specs.Call.Answer.{answer};
-ghost use Rattle.scope.specs.File.Refusals.{demand};
+ghost use Rattle.scope.specs.File.Refusals.{demand, rowRefusal, firstOf};
 ghost use Rattle.scope.specs.Call.Checked.{allZero, pastZero, checked};
 ghost use Rattle.scope.specs.Call.Tables.{hasRoom, unpack, formEntry, policyEntry, stepEntry};
 ghost use Rattle.checks.specs.Met.{checkedOf, metIn, lentWith};
-ghost use Rattle.checks.specs.Answers.{countAnswers, formAnswer, formAnswers, policyAnswers, stepAnswers};
+ghost use Prim.Native.Nat.{_≤_};
+ghost use Rattle.scope.specs.Limits.{mostFormulas, formAt};
+ghost use Rattle.scope.specs.File.Kinds.{formKinds};
+ghost use Rattle.numbering.specs.Refused.{repeatRefusal};
+ghost use Rattle.checks.specs.Answers.{countAnswers, formAnswers, policyAnswers, stepAnswers};
 ghost use Rattle.refusals.specs.Rows.{row};
 ghost use Rattle.checks.specs.Whole.{formPart, linePart, stepPart};
 use common::Answer;
 use common::Counts;
+use numbering::Earlier;
+use numbering::SLOTS;
 
 mod rows;
 
@@ -62,11 +68,19 @@ fn check_counts(principals: u16, atoms: u16, formulas: u16) -> Checked
     )
 }
 
-// Formula number i by its three numbers.
-fn check_form(principals: u16, atoms: u16, i: u16, kind: u16, left: u16, right: u16) -> Checked
-    ensures { λ r. ⌜ r ≡ checkedOf (formAnswer principals atoms i (row kind left right)) ⌝ }
+// Formula number i by its three numbers, and the earlier one that it repeats.
+fn check_form(
+    principals: u16,
+    atoms: u16,
+    i: u16,
+    kind: u16,
+    left: u16,
+    right: u16,
+    earlier: Earlier,
+) -> Checked
+    ensures { λ r. ⌜ r ≡ checkedOf (answer (firstOf (rowRefusal formKinds principals atoms i (row kind left right)) (repeatRefusal earlier)) (formAt i)) ⌝ }
 {
-    let number = refusals::form_refusal(
+    let row = refusals::form_refusal(
         kind as usize,
         left as u32,
         right as u32,
@@ -74,19 +88,23 @@ fn check_form(principals: u16, atoms: u16, i: u16, kind: u16, left: u16, right: 
         atoms,
         i,
     );
+    let number = numbering::refusal_with(row, earlier);
     answer_at(number, common::form_at(i))
 }
 
 fn check_forms(principals: u16, atoms: u16, count: u16, forms: &[u16]) -> Checked
+    requires { ⌜ count ≤ mostFormulas ⌝ }
     ensures { λ r. ⌜ r ≡ metIn (formAnswers principals atoms (unpack formEntry count (now (forms .entry)))) ⌝ }
 {
+    let mut slots = [0u16; SLOTS];
     let mut i: u16 = 0;
     while i < count {
         let at = 3 * (i as usize);
         let kind = common::entry_at(forms, at);
         let left = common::entry_at(forms, at + 1);
         let right = common::entry_at(forms, at + 2);
-        let form = check_form(principals, atoms, i, kind, left, right);
+        let earlier = numbering::enter_row(forms, &mut slots, i, kind, left, right);
+        let form = check_form(principals, atoms, i, kind, left, right, earlier);
         let Checked::Fine = form else {
             return form;
         };

@@ -1,5 +1,5 @@
 -- One row more: of a table's first things, and of the formulas that rows mean.
-use Prim.Native.Nat.{ℕ, zero, suc, _+_, _*_, _<_}
+use Prim.Native.Nat.{ℕ, zero, suc, _+_, _*_, _<_, _≤_}
 use native.Mathlib.Nat.{add-zero, mul-zero, not-suc-le-zero, le-of-suc-le-suc}
 use native.Mathlib.Omega.{arith}
 use mathlib.Core.Path.{_≡_, refl, ap, sym, _∙_}
@@ -32,6 +32,14 @@ unpack-at e (suc n) t (suc i) d h =
     let next : e .width + e .width * i ≡ e .width * suc i = omega arith in
     unpack-at e n (drop (e .width) t) i d (le-of-suc-le-suc h) ∙
     ap (λ (l : List ℕ). e .get (take (e .width) l)) (drop-drop (e .width * i) (e .width) t ∙ ap (λ (k : ℕ). drop k t) next)
+
+-- The first i of the first n things of a table.
+pub unpack-before : {A : Type 0} (e : Entry A) (n : ℕ) (t : List ℕ) (i : ℕ) → i ≤ n → take i (unpack e n t) ≡ unpack e i t
+unfolding unpack
+unpack-before e n t zero h = refl
+unpack-before e zero t (suc i) h = absurd (not-suc-le-zero h)
+unpack-before e (suc n) t (suc i) h =
+    ap (λ l. e .get (take (e .width) t) ∷ l) (unpack-before e n (drop (e .width) t) i (le-of-suc-le-suc h))
 
 -- The row that stands at formula i of a table.
 abbrev pub formRow : List ℕ → ℕ → Row

@@ -1,11 +1,12 @@
 -- The numbers and places of the judge's and of the gate's answers, as document 01's table 'What comes back' has them.
 --     judge-range : judge t ≡ answer k place → ByJudging t k place
 --     gate-range : gate s ≡ prints k place n → ByGate s k place n
--- So the gate prints no number over 12 (`gate-number`): never 13 or 14.
+-- So the gate prints no number over 12 but 15 (`gate-number`): never 13 or 14.
 use Prim.Native.Nat.{ℕ, zero, suc, _*_, _<_, _≤_}
 use mathlib.Core.Path.{_≡_, refl, _∙_}
 use mathlib.Core.Bool.{true}
 use mathlib.Core.List.{List}
+use mathlib.Core.Logic.{inl}
 use native.Mathlib.Omega.{arith}
 use lib.ListN.{length, length-map}
 use Rattle.scope.specs.Limits.{mostFormulas, mostPolicyLines, mostSteps}
@@ -22,7 +23,7 @@ use Rattle.granted.specs.FirstBreak.{break-range}
 use Rattle.trip.specs.Places.{Where}
 use Rattle.demands.specs.Judged.{Answers, by-tables, by-steps, judge-allowed}
 use Rattle.demands.specs.Ranges as Range
-use Rattle.demands.specs.Ranges.{ByReading, ByChecks, reading-range, where-number, with-room, checked-range}
+use Rattle.demands.specs.Ranges.{Between, between-wider, ByReading, ByChecks, reading-range, where-number, with-room, checked-range}
 use Rattle.demands.specs.Gate.{gateReads, Prints, unread, answered, gate-prints}
 
 -- An answer about steps, n of them: granted at place 0, or 7 to 12 at a step or behind the last.
@@ -35,7 +36,7 @@ pub data ByJudging (t : Lent) (k place : ℕ) : Type 0 where
   by-checks : ByChecks k place → ByJudging t k place
   about-steps : BySteps (t .steps) k place → ByJudging t k place
 
--- Of the gate: 1 at place 0 or 2 to 6 at a line, with no steps read; or an answer about the steps read.
+-- Of the gate: 1 at place 0 or 2 to 6 or 15 at a line, with no steps read; or an answer about the steps read.
 pub data ByGate (s : List ℕ) (k place n : ℕ) : Type 0 where
   too-long : k ≡ 1 → place ≡ 0 → n ≡ 0 → ByGate s k place n
   at-line : Where s k place → n ≡ 0 → ByGate s k place n
@@ -97,10 +98,10 @@ steps-number : {n k place : ℕ} → BySteps n k place → k ≤ 12
 steps-number (granted e p) = omega arith
 steps-number (at-step a b c d) = b
 
-by-gate-number : {s : List ℕ} {k place n : ℕ} → ByGate s k place n → k ≤ 12
-by-gate-number (too-long e p c) = omega arith
-by-gate-number (at-line w c) = omega (arith, where-number w)
-by-gate-number (about-steps a) = steps-number a
+by-gate-number : {s : List ℕ} {k place n : ℕ} → ByGate s k place n → Between 0 12 k
+by-gate-number (too-long e p c) = inl (omega arith)
+by-gate-number (at-line w c) = between-wider (omega arith) (omega arith) (where-number w .0)
+by-gate-number (about-steps a) = inl (omega (arith, steps-number a))
 
-pub gate-number : (s : List ℕ) (k place n : ℕ) → gate s ≡ prints k place n → k ≤ 12
+pub gate-number : (s : List ℕ) (k place n : ℕ) → gate s ≡ prints k place n → Between 0 12 k
 gate-number s k place n e = by-gate-number (gate-range s k place n e)

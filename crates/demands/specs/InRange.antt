@@ -7,7 +7,7 @@ use Rattle.scope.specs.File.Request.{Row}
 use Rattle.scope.specs.File.Kinds.{kindIn, formKinds, operandsOf}
 use Rattle.scope.specs.File.Refusals.{formRefusal}
 use Rattle.trip.specs.Several.{Each, none-left, one-more}
-use Rattle.trip.specs.RowRanges.{countOf, Below, Passed, row-passed}
+use Rattle.trip.specs.RowRanges.{countOf, Below, Passed, row-passed, form-passed}
 use Rattle.sound.specs.Over.{All}
 use Rattle.sound.specs.Rows.{RowOk}
 
@@ -26,8 +26,7 @@ row-ok k n i r p =
     }
 
 row-in : (k n : ℕ) (before : List Row) (r : Row) → formRefusal k n before r ≡ 0 → RowOk k n r
-unfolding formRefusal
-row-in k n before r e = row-ok k n (length before) r (row-passed k n (length before) formKinds r e)
+row-in k n before r e = row-ok k n (length before) r (row-passed k n (length before) formKinds r (form-passed k n before r e .row))
 
 pub rows-in : (k n : ℕ) {c : ℕ} {before rs : List Row} → Each (λ b r. formRefusal k n b r ≡ 0) c before rs → All (RowOk k n) rs
 rows-in k n none-left = tt

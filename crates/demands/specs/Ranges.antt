@@ -2,7 +2,7 @@
 --     reading-range : reading forms lines steps s ≡ refused (answer k place) → ByReading s k place
 --     checked-range : checked t ≡ answer (suc k) place → ByChecks (suc k) place
 --     writing-range : writing t len ≡ unwritten (answer k place) → ByWriting k place
--- So reading refuses 1 to 6 or 13 (`read-number`), and no refusal has number 0 (`reading-firm`).
+-- So reading refuses 1 to 6, 13 or 15 (`read-number`), and no refusal has number 0 (`reading-firm`).
 use Prim.Native.Nat.{ℕ, zero, suc, _<_, _≤_}
 use mathlib.Core.Path.{_≡_, refl}
 use mathlib.Core.Bool.{Bool, true, false, cond}
@@ -21,16 +21,16 @@ use Rattle.scope.specs.Call.Tables.{Lent, hasRoom, requestOf}
 use Rattle.scope.specs.Call.Checked.{firstMet, eachOf, lineAnswers, pastZero, checked}
 use Rattle.scope.specs.Call.Calls.{reading, written, unwritten, writtenIf, writing}
 use Rattle.scope.specs.Tools.Tests.{never}
-use Rattle.trip.specs.LineRefusals.{InShape, range, later, class, OfLine, shape, in-shape, Mild, count-mild, form-mild, clause-mild, goal-mild, step-mild}
+use Rattle.trip.specs.LineRefusals.{InShape, range, later, twice, class, OfLine, shape, in-shape, Mild, count-mild, form-mild, clause-mild, goal-mild, step-mild}
 use Rattle.trip.specs.Places.{Where, of-line, of-rest, refused-where}
 
--- Of reading: 13 and 1 at place 0; 2 to 5 at the line that met it, and 6 at the line behind the last (`Where`).
+-- Of reading: 13 and 1 at place 0; 2 to 5 and 15 at the line that met it, and 6 at the line behind the last (`Where`).
 pub data ByReading (s : List ℕ) (k place : ℕ) : Type 0 where
   no-room : k ≡ 13 → place ≡ 0 → ByReading s k place
   too-long : k ≡ 1 → place ≡ 0 → ByReading s k place
   at-line : Where s k place → ByReading s k place
 
--- Of lent tables: 13 at place 0; 3, 4 or 5 at a line; 3 at place 0.
+-- Of lent tables: 13 at place 0; 3, 4, 15 or 5 at a line; 3 at place 0.
 pub data ByChecks (k place : ℕ) : Type 0 where
   no-room : k ≡ 13 → place ≡ 0 → ByChecks k place
   at-line : InShape k → 0 < place → ByChecks k place
@@ -51,32 +51,49 @@ reading-range f l n s k place e = go (hasRoom f l n) (leb (length s) mostBytes) 
     go true false d = too-long (cc) (cc)
     go false b d = no-room (cc) (cc)
 
-in-shape-number : {k : ℕ} → InShape k → (3 ≤ k) × (k ≤ 5)
-in-shape-number (range e) = omega arith
-in-shape-number (later e) = omega arith
-in-shape-number (class e) = omega arith
+-- A number of document 01's table between two others, or 15.
+abbrev pub Between : ℕ → ℕ → ℕ → Type 0
+Between least most k = ((least ≤ k) × (k ≤ most)) ⊎ (k ≡ 15)
 
-of-line-number : {k : ℕ} → OfLine k → (2 ≤ k) × (k ≤ 5)
-of-line-number (shape e) = omega arith
-of-line-number (in-shape e) = omega (arith, in-shape-number e)
+in-shape-number : {k : ℕ} → InShape k → Between 3 5 k
+in-shape-number (range e) = inl (omega arith)
+in-shape-number (later e) = inl (omega arith)
+in-shape-number (twice e) = inr e
+in-shape-number (class e) = inl (omega arith)
 
-pub where-number : {s : List ℕ} {k i : ℕ} → Where s k i → (2 ≤ k) × (k ≤ 6) × (0 < i)
-where-number (of-line b n d w) = omega (arith, of-line-number n, b .place)
-where-number (of-rest b q e d) = omega (arith, b .place)
+pub between-wider : {least most less more k : ℕ} → less ≤ least → most ≤ more → Between least most k → Between less more k
+between-wider a b (inl h) = inl (omega arith)
+between-wider a b (inr e) = inr e
 
-read-by : {s : List ℕ} {k place : ℕ} → ByReading s k place → ((1 ≤ k) × (k ≤ 6)) ⊎ (k ≡ 13)
+of-line-number : {k : ℕ} → OfLine k → Between 2 5 k
+of-line-number (shape e) = inl (omega arith)
+of-line-number (in-shape e) = between-wider (omega arith) (omega arith) (in-shape-number e)
+
+pub where-number : {s : List ℕ} {k i : ℕ} → Where s k i → Between 2 6 k × (0 < i)
+where-number (of-line b n d w) = (between-wider (omega arith) (omega arith) (of-line-number n), omega (arith, b .place))
+where-number (of-rest b q e d) = (inl (omega arith), omega (arith, b .place))
+
+read-by : {s : List ℕ} {k place : ℕ} → ByReading s k place → Between 1 6 k ⊎ (k ≡ 13)
 read-by (no-room e p) = inr e
-read-by (too-long e p) = inl (omega arith)
-read-by (at-line w) = inl (omega (arith, where-number w))
+read-by (too-long e p) = inl (inl (omega arith))
+read-by (at-line w) = inl (between-wider (omega arith) (omega arith) (where-number w .0))
 
 pub read-number : (forms lines steps : ℕ) (s : List ℕ) (k place : ℕ) → reading forms lines steps s ≡ refused (answer k place) →
-    ((1 ≤ k) × (k ≤ 6)) ⊎ (k ≡ 13)
+    Between 1 6 k ⊎ (k ≡ 13)
 read-number f l n s k place e = read-by (reading-range f l n s k place e)
+
+some-number : {least most k : ℕ} → 0 < least → Between least most k → 0 < k
+some-number h (inl b) = omega arith
+some-number h (inr e) = omega arith
+
+not-thirteen : {least most k : ℕ} → most < 13 → Between least most k → k ≡ 13 → ⊥
+not-thirteen h (inl b) t = omega arith
+not-thirteen h (inr e) t = omega arith
 
 firm : {s : List ℕ} {k place : ℕ} → ByReading s k place → 0 < k
 firm (no-room e p) = omega arith
 firm (too-long e p) = omega arith
-firm (at-line w) = omega (arith, where-number w)
+firm (at-line w) = some-number (omega arith) (where-number w .0)
 
 -- A file that reads to nothing is never taken for granted.
 pub reading-firm : (forms lines steps : ℕ) (s : List ℕ) (k place : ℕ) → reading forms lines steps s ≡ refused (answer k place) → 0 < k
@@ -89,7 +106,7 @@ unfolding reading
 with-room f l n s k place h e t = go (leb (length s) mostBytes) (rw h at e)
   where
     go : (b : Bool) → cond b (readRequest s) (refused (answer 1 0)) ≡ refused (answer k place) → ⊥
-    go true d = omega (arith, where-number (refused-where s k place d))
+    go true d = not-thirteen (omega arith) (where-number (refused-where s k place d) .0) t
     go false d = let z : 1 ≡ k = cc in omega arith
 
 -- The checks: the first refusal met in a list of answers is in its range, put together from the lists of a request's lines.

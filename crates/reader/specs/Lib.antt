@@ -5,6 +5,8 @@ pub mod Many
 pub mod Stored
 pub mod Whole
 pub mod Turns
+pub mod NewRows
+pub mod FormTurns
 pub mod Got
 pub mod Joins
 pub mod Outcomes

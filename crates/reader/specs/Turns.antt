@@ -94,14 +94,14 @@ module _ {A : Type 0} (entry : Entry A) (item : List A → Reader A) (n : ℕ) (
           let f : n - i ≡ suc (n - (i + 1)) = omega arith in
           k .whole ∙ ap (λ m. onto (k .before) (many item m (k .before) rest)) f
 
-      turn-stops : {X : List A → List ℕ → Type 0} (z : Answer) → item (k .before) rest ≡ bad z → (x : Returned) → x ≡ answerOf z
+      pub turn-stops : {X : List A → List ℕ → Type 0} (z : Answer) → item (k .before) rest ≡ bad z → (x : Returned) → x ≡ answerOf z
           → (Section.Refused x ≡ sectionOf (length text) (many item n [] text)) ×
           ((xs : List A) (over : List ℕ) → many item n [] text ≡ ok xs over → X xs over)
       turn-stops z e x d =
           section-refused (length text) (many item n [] text) z
           (one-turn ∙ many-stop item (n - (i + 1)) (k .before) rest z e) x d
 
-      turn-more : (a : A) (m : ℕ) → Behind rest m → item (k .before) rest ≡ ok a (partFrom m rest) → (andThen : List ℕ)
+      pub turn-more : (a : A) (m : ℕ) → Behind rest m → item (k .before) rest ≡ ok a (partFrom m rest) → (andThen : List ℕ)
           → length andThen ≡ length numbers
           → andThen ≡ table entry len (k .before ++ (a ∷ [])) → Turns entry item n text len andThen (partFrom m rest) (i + 1)
       turn-more a m b e andThen l d =
@@ -122,45 +122,7 @@ pub record Line-asked {R : Type 0} (key : String) (asked : List ℕ → R) (s : 
   pub answer : R
   pub about : answer ≡ asked value
 
--- One turn over `form=` lines. The line is its key, its value and the LF, for no row has an empty value: the rest begins behind them.
-abbrev pub formAsked : ℕ → ℕ → ℕ → List ℕ → RowLine
-formAsked principals atoms i v = rowLineOf (shapedAs (rowRefusal formKinds principals atoms i) (rowIn formKinds v))
-
-module _ (principals atoms : ℕ) {n : ℕ} {text : List ℕ} {len : ℕ} {numbers s : List ℕ} {i : ℕ}
-    (k : Turns formEntry (formItem principals atoms) n text len numbers s i) (h : i < n)
-    (q : Line-asked "form=" (formAsked principals atoms i) s) where
-  at-length : (a : Value Row) → shapedAs (rowRefusal formKinds principals atoms i) (rowIn formKinds (q .value)) ≡ a
-      → shapedAs (rowRefusal formKinds principals atoms (length (k .before))) (rowIn formKinds (q .value)) ≡ a
-  at-length a e = subst (λ j. shapedAs (rowRefusal formKinds principals atoms j) (rowIn formKinds (q .value)) ≡ a) (sym (k .count)) e
-
-  pub form-stops : {X : List Row → List ℕ → Type 0} (j : ℕ) → q .answer ≡ RowLine.Refused j → (x : Returned) → x ≡ refusalIs j (formAt i)
-      → (Section.Refused x ≡ sectionOf (length text) (many (formItem principals atoms) n [] text)) ×
-      ((rows : List Row) (over : List ℕ) → many (formItem principals atoms) n [] text ≡ ok rows over → X rows over)
-  unfolding formRefusal
-  form-stops j e x d =
-      turn-stops formEntry (formItem principals atoms) n text k h (answer j (formAt i))
-      (row-bad "form=" formKinds (formRefusal principals atoms (k .before)) s (q .value) (q .part) no-form (formAt (length (k .before))) j
-      (at-length (out j) (out-row (shapedAs (rowRefusal formKinds principals atoms i) (rowIn formKinds (q .value))) j (sym (q .about) ∙ e))) ∙
-      ap (λ m. bad (answer j (formAt m))) (k .count)) x d
-
-  module _ (a l r : ℕ) (e : q .answer ≡ RowLine.Row a l r) where
-    form-is : shapedAs (rowRefusal formKinds principals atoms i) (rowIn formKinds (q .value)) ≡ val (row a l r)
-    form-is = val-row (shapedAs (rowRefusal formKinds principals atoms i) (rowIn formKinds (q .value))) a l r (sym (q .about) ∙ e)
-
-    pub form-behind : Behind s (length (q .value) + 6)
-    form-behind = row-behind "form=" formKinds (rowRefusal formKinds principals atoms i) s (q .value) (q .part) no-form a l r form-is
-
-    pub form-turn : 3 * i + 3 ≤ len → Turns formEntry (formItem principals atoms) n text len
-        (set (set (set numbers (3 * i) a) (3 * i + 1) l) (3 * i + 2) r) (partFrom (length (q .value) + 6) s) (i + 1)
-    unfolding formRefusal
-    form-turn room =
-        turn-more formEntry (formItem principals atoms) n text k h (row a l r) (length (q .value) + 6) form-behind
-        (row-ok "form=" formKinds (formRefusal principals atoms (k .before)) s (q .value) (q .part) no-form (formAt (length (k .before)))
-        (partFrom (length (q .value) + 6) s) a l r (form-behind .rest) (at-length (val (row a l r)) form-is))
-        (set (set (set numbers (3 * i) a) (3 * i + 1) l) (3 * i + 2) r) (simp length-set)
-        (form-more len numbers (3 * i) (k .before) a l r (k .stored) (omega (arith, k .count)) room)
-
--- And over `clause=` lines.
+-- One turn over `clause=` lines.
 abbrev pub clauseAsked : List ℕ → ℕ → List ℕ → NumberLine
 clauseAsked classes formulas v = numberLineOf (shapedAs (classRefusal policyIn classes formulas) (number v))
 

@@ -3,6 +3,8 @@ use crate::Part;
 use crate::RowLine;
 use crate::Section;
 use lines::Row;
+use numbering::Earlier;
+use numbering::SLOTS;
 ghost use mathlib.Core.Path.{_≡_};
 ghost use Prim.Native.Nat.{_*_, _≤_};
 ghost use mathlib.Core.List.{List, []};
@@ -16,6 +18,7 @@ ghost use Rattle.scope.specs.File.Request.{Row as FormRow};
 ghost use Rattle.scope.specs.File.Reader.{formItem};
 ghost use Rattle.scope.specs.Call.Tables.{table, formEntry};
 ghost use Rattle.reader.specs.Answers.{rowLineOf, sectionOf, formulasCounts, partOf, formulaCount};
+ghost use Rattle.reader.specs.NewRows.{askedRow, slotsAfter};
 ghost use Rattle.reader.specs.Sections.{Formulas, formulasPart};
 
 // The value of a `form=` line.
@@ -36,16 +39,40 @@ fn form_line(value: &[u8], principals: u16, atoms: u16, formula: u16) -> RowLine
     RowLine::Row(k, x, y)
 }
 
+// The value of a `form=` line behind those before it, whose rows stand in the table and are kept in the slots.
+fn new_line(
+    value: &[u8],
+    principals: u16,
+    atoms: u16,
+    formula: u16,
+    forms: &[u16],
+    slots: &mut [u16; SLOTS],
+) -> RowLine
+    ensures { λ r. ⌜ r ≡ rowLineOf (shapedAs (askedRow principals atoms formula (now (forms .entry)) (now (slots .entry))) (rowIn formKinds (now (value .entry)))) ⌝ }
+    ensures { λ r. ⌜ now (slots .exit) ≡ slotsAfter r (now (forms .entry)) formula (now (slots .entry)) ⌝ }
+{
+    let got = form_line(value, principals, atoms, formula);
+    let RowLine::Row(kind, left, right) = got else {
+        return got;
+    };
+    let earlier = numbering::enter_row(forms, slots, formula, kind, left, right);
+    let Earlier::Nothing = earlier else {
+        return RowLine::Refused(15);
+    };
+    RowLine::Row(kind, left, right)
+}
+
 fn read_forms(text: &[u8], principals: u16, atoms: u16, formulas: u16, forms: &mut [u16]) -> Section
     requires { ⌜ (formulas ≤ mostFormulas) × (3 * mostFormulas ≤ length (now forms)) × (now forms ≡ replicate (length (now forms)) 0) ⌝ }
     ensures { λ r. ⌜ r ≡ sectionOf (length (now (text .entry))) (many (formItem principals atoms) formulas [] (now (text .entry))) ⌝ }
     ensures { λ r. ⌜ ((rows : List FormRow) (rest : List ℕ) → many (formItem principals atoms) formulas [] (now (text .entry)) ≡ ok rows rest → now (forms .exit) ≡ table formEntry (length (now (forms .entry))) rows) ⌝ }
 {
+    let mut slots = [0u16; SLOTS];
     let mut rest = text;
     let mut i: u16 = 0;
     while i < formulas {
         let value = lines::value_of(rest, b"form=");
-        let got = form_line(value, principals, atoms, i);
+        let got = new_line(value, principals, atoms, i, forms, &mut slots);
         let RowLine::Row(kind, left, right) = got else {
             let place = common::form_at(i);
             return Section::Refused(crate::row_refused(got, place));

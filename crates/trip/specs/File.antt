@@ -18,6 +18,7 @@ use Rattle.trip.specs.Cuts.{free, numeral-free}
 use Rattle.trip.specs.Words.{Neat, form-kinds-neat, step-kinds-neat}
 use Rattle.trip.specs.Rows.{SayableRow, row-there, row-back, row-clean}
 use Rattle.trip.specs.Small.{count-passed, clause-named, goal-named, row-sayable}
+use Rattle.trip.specs.RowRanges.{form-passed}
 use Rattle.trip.specs.Reads.{Shaped, Reads, line-reads}
 use Rattle.trip.specs.Several.{two, Each, seq-reads, done-reads, counted-reads, reads-as}
 
@@ -56,13 +57,13 @@ count-reads key least most i f h =
 form-reads :
     (principals atoms : ℕ) → principals ≤ 100000 → atoms ≤ 100000 → (before : List Row) → length before < 1024
     → Reads (formItem principals atoms before) (lineText formLine) (λ r. formRefusal principals atoms before r ≡ 0)
-unfolding formRefusal free
+unfolding free
 form-reads np na hp ha before h =
     line-reads formLine (formRefusal np na before) (5 + length before) refl (row-shaped formKinds form-kinds-neat)
     (λ r e.
     row-sayable formKinds np na (length before) r form-kinds-neat
     (record { principals-small = hp; atoms-small = ha; number-small = omega arith })
-    e)
+    (form-passed np na before r e .row))
 
 step-reads :
     (formulas clauses : ℕ) (before : List Row) → length before < 2048

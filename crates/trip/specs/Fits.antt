@@ -16,7 +16,7 @@ use Rattle.scope.specs.File.Kinds.{Kind, kindIn, spaced, operandsOf, rowText, f
 use Rattle.scope.specs.File.Refusals.{formRefusal, stepRefusal}
 use Rattle.scope.specs.File.Text.{versionLine, principalsLine, atomsLine, formulasLine, formLine, clausesLine, clauseLine, goalLine, stepsLine, stepLine, requestText}
 use Rattle.trip.specs.Words.{everyKind, every-at}
-use Rattle.trip.specs.RowRanges.{row-passed}
+use Rattle.trip.specs.RowRanges.{row-passed, form-passed}
 use Rattle.trip.specs.Small.{count-passed}
 use Rattle.trip.specs.Several.{Each, none-left, one-more}
 use Rattle.trip.specs.File.{Unrefused}
@@ -104,9 +104,9 @@ counted-fits l it m xs h fits e =
     (arith, length-append (lineText l (length xs)) (manyText (lineText it) xs), line-fits l (length xs) 5 h, many-fits (lineText it) m fits e)
 
 form-fits : (principals atoms : ℕ) (before : List Row) (r : Row) → formRefusal principals atoms before r ≡ 0 → length (lineText formLine r) ≤ 22
-unfolding formRefusal
 form-fits np na before r e =
-    line-fits formLine r 16 (row-fits formKinds 16 r forms-short (row-passed np na (length before) formKinds r e .known))
+    line-fits formLine r 16
+    (row-fits formKinds 16 r forms-short (row-passed np na (length before) formKinds r (form-passed np na before r e .row) .known))
 
 step-fits : (before : List Row) (r : Row) → stepRefusal r ≡ 0 → length (lineText stepLine r) ≤ 15
 unfolding stepRefusal

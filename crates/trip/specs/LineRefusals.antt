@@ -1,4 +1,4 @@
--- The refusals that a line can meet: 2 where it is out of shape or missing; in shape 3, 4 or 5, whichever line it is.
+-- The refusals that a line can meet: 2 where it is out of shape or missing; in shape 3, 4, 15 or 5, whichever line it is.
 use Prim.Native.Nat.{ℕ, zero, suc, _<_}
 use mathlib.Core.Path.{_≡_, refl}
 use mathlib.Core.List.{List}
@@ -6,15 +6,16 @@ use mathlib.Core.Bool.{Bool, true, false}
 use native.Mathlib.Omega.{arith}
 use lib.Dec.{leb, ltb}
 use lib.ListN.{length}
-use Rattle.scope.specs.Logic.Form.{both}
+use Rattle.scope.specs.Logic.Form.{both, negate}
 use Rattle.scope.specs.File.Request.{Row, policyClass, goalClass}
 use Rattle.scope.specs.File.Kinds.{Kind, kindIn, operandsOf, formKinds, stepKinds}
-use Rattle.scope.specs.File.Refusals.{demand, inRange, isEarlier, pass, restZero, countRefusal, rowRefusal, formRefusal, stepRefusal, clauseRefusal, goalRefusal}
+use Rattle.scope.specs.File.Refusals.{demand, inRange, isEarlier, pass, restZero, countRefusal, rowRefusal, isAmong, firstOf, formRefusal, stepRefusal, clauseRefusal, goalRefusal}
 
--- 'number outside its range'; 'formula names itself or a later one'; 'policy line or goal of the wrong class'
+-- 'number outside its range'; 'formula names itself or a later one'; 'two equal `form=` lines'; 'policy line or goal of the wrong class'
 pub data InShape (k : ℕ) : Type 0 where
   range : k ≡ 3 → InShape k
   later : k ≡ 4 → InShape k
+  twice : k ≡ 15 → InShape k
   class : k ≡ 5 → InShape k
 
 pub data OfLine (k : ℕ) : Type 0 where
@@ -33,6 +34,11 @@ unfolding demand
 mild-demand true k n s m = m
 mild-demand false k n s m = λ h. s
 
+mild-first : (k n : ℕ) → Mild k → Mild n → Mild (firstOf k n)
+unfolding firstOf
+mild-first zero n p q = q
+mild-first (suc k) n p q = p
+
 pub count-mild : (least most n : ℕ) → Mild (countRefusal least most n)
 unfolding countRefusal
 count-mild least most n = mild-demand (both (leb least n) (leb n most)) 3 0 (range refl) mild-none
@@ -48,7 +54,9 @@ row-mild ks principals atoms i r =
 
 pub form-mild : (principals atoms : ℕ) (before : List Row) (r : Row) → Mild (formRefusal principals atoms before r)
 unfolding formRefusal
-form-mild principals atoms before r = row-mild formKinds principals atoms (length before) r
+form-mild principals atoms before r =
+    mild-first (rowRefusal formKinds principals atoms (length before) r) _ (row-mild formKinds principals atoms (length before) r)
+    (mild-demand (negate (isAmong r before)) 15 0 (twice refl) mild-none)
 
 pub step-mild : (r : Row) → Mild (stepRefusal r)
 unfolding stepRefusal

@@ -1,18 +1,19 @@
 -- What a row without refusal tells (`row-passed`): its kind is known, it has no operand that its kind lacks, and each operand that its
 -- kind has is below what its sort counts.
-use Prim.Native.Nat.{ℕ, suc, _<_}
-use mathlib.Core.Path.{_≡_}
+use Prim.Native.Nat.{ℕ, zero, suc, _<_}
+use mathlib.Core.Path.{_≡_, refl}
 use mathlib.Core.List.{List, [], _∷_}
-use mathlib.Core.Bool.{true}
+use mathlib.Core.Bool.{Bool, true, false}
 use native.Mathlib.Omega.{arith}
 use lib.Dec.{ltb}
 use lib.ListN.{length}
 use borrow.Author.Tests.{leb-true, ltb-true}
 use Rattle.scope.specs.Limits.{mostStepNumber}
 use Rattle.scope.specs.File.Request.{Row}
-use Rattle.scope.specs.File.Kinds.{Sort, atomNumber, principalNumber, formulaNumber, clauseNumber, worldNumber, Kind, kindIn, operandsOf}
-use Rattle.scope.specs.File.Refusals.{inRange, isEarlier, pass, restZero, rowRefusal}
-use Rattle.scope.specs.Tools.Tests.{both-true, demand-met}
+use Rattle.scope.specs.File.Kinds.{Sort, atomNumber, principalNumber, formulaNumber, clauseNumber, worldNumber, Kind, kindIn, operandsOf, formKinds}
+use Rattle.scope.specs.Logic.Form.{negate}
+use Rattle.scope.specs.File.Refusals.{demand, inRange, isEarlier, pass, restZero, rowRefusal, isAmong, firstOf, formRefusal}
+use Rattle.scope.specs.Tools.Tests.{never, both-true, demand-met}
 
 -- How many numbers of a sort there are for row i.
 abbrev pub countOf : ℕ → ℕ → ℕ → Sort → ℕ
@@ -62,3 +63,22 @@ module _ (principals atoms i : ℕ) where
       let c = demand-met (pass (inRange principals atoms) os (operandsOf r)) 2 _ (b .1) in
       let d = demand-met (pass (isEarlier i) os (operandsOf r)) 3 0 (c .1) in
       record { known = ltb-true (r .kind) (length ks) (a .0); lacking = b .0; below = all-below os (operandsOf r) (c .0) (d .0) }
+
+-- A formula without refusal: its row is, and it is none of those before it.
+pub record NewRow (principals atoms : ℕ) (before : List Row) (r : Row) : Type 0 where
+  pub row : rowRefusal formKinds principals atoms (length before) r ≡ 0
+  pub new : isAmong r before ≡ false
+
+negate-false : (t : Bool) → negate t ≡ true → t ≡ false
+unfolding negate
+negate-false true e = never cc
+negate-false false e = refl
+
+pub form-passed : (principals atoms : ℕ) (before : List Row) (r : Row) → formRefusal principals atoms before r ≡ 0 → NewRow principals atoms before r
+unfolding formRefusal firstOf
+form-passed principals atoms before r e = go (rowRefusal formKinds principals atoms (length before) r) refl e
+  where
+    go : (k : ℕ) → rowRefusal formKinds principals atoms (length before) r ≡ k → firstOf k (demand (negate (isAmong r before)) 15 0) ≡ 0 →
+        NewRow principals atoms before r
+    go zero row h = record { row = row; new = negate-false (isAmong r before) (demand-met (negate (isAmong r before)) 14 0 h .0) }
+    go (suc k) row h = absurd (omega arith)

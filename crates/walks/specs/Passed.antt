@@ -12,7 +12,7 @@ use Rattle.scope.specs.File.Refusals.{formRefusal}
 use Rattle.scope.specs.Call.Tables.{Lent, formEntry, policyEntry, unpack, requestOf}
 use Rattle.scope.specs.Tools.Unpack.{unpack-length}
 use Rattle.trip.specs.RowRanges as ranges
-use Rattle.trip.specs.RowRanges.{row-passed}
+use Rattle.trip.specs.RowRanges.{row-passed, form-passed}
 use Rattle.trip.specs.Small.{count-passed, clause-named, goal-named}
 use Rattle.trip.specs.Several.{Each, each-at}
 use Rattle.trip.specs.File.{Unrefused}
@@ -27,10 +27,9 @@ pub record Passed (t : Lent) : Type 0 where
 
 row-at : (k n : ℕ) (rs : List Row) → Each (λ before r. formRefusal k n before r ≡ 0) (length rs) [] rs →
     (f : ℕ) (d : Row) → f < length rs → ranges.Passed formKinds k n f (getD rs f d)
-unfolding formRefusal
 row-at k n rs each f d h =
     let front : length (take f rs) ≡ f = length-take-le f rs (omega arith) in
-    row-passed k n f formKinds (getD rs f d) (rw front at (each-at each d f h))
+    row-passed k n f formKinds (getD rs f d) (rw front at (form-passed k n (take f rs) (getD rs f d) (each-at each d f h) .row))
 
 pub unrefused-passed : (t : Lent) → Unrefused (requestOf t) → Passed t
 unfolding requestOf

@@ -1,39 +1,75 @@
--- `checks::check_forms` meets its contract: in turn i the answers about the first i formulas are fine, and answer i is that about row i.
+-- `checks::check_forms` meets its contract: in turn i the answers about the first i formulas are fine and the slots keep their rows, and
+-- answer i is that about row i.
 use borrow.Author.Needs.{needs}
+use native.Mathlib.Omega.{arith}
 use Prim.Native.Nat.{_-_}
-use Rattle.scope.specs.Call.Tables.{unpack, formEntry}
-use Rattle.checks.specs.MetLaws.{Passed, passed-none, passed-all, Turn, turn-of, turn-stop, turn-go}
-use Rattle.checks.specs.Answers.{formAnswers}
-use Rattle.checks.specs.Sections.{forms-length, form-at}
+use mathlib.Core.Path.{_≡_}
+use Rattle.scope.specs.Call.Answer.{answer}
+use Rattle.scope.specs.Limits.{formAt}
+use Rattle.classes.specs.Rows.{formRow}
+use Rattle.numbering.specs.Slots.{placeIn, keptAt}
+use Rattle.checks.specs.Met.{checkedOf}
+use Rattle.checks.specs.MetLaws.{passed-all, turn-stop}
+use Rattle.checks.specs.FormTurns.{FormsPassed, forms-none, asked, form-turn, forms-more}
 use Rattle.checks.proofs.check_forms.Statement.{statement}
 use Rattle.checks.proofs.check_forms.Tie as tie
 
 abbrev Inv-loop : tie.InvT-loop
-Inv-loop principals atoms count forms i₀ i = Passed count (formAnswers principals atoms (unpack formEntry count forms)) i
+Inv-loop principals atoms count forms slots₀ i₀ slots i = FormsPassed principals atoms count forms slots i
 
 abbrev μ-loop : tie.MeasureT-loop
-μ-loop principals atoms count forms i₀ i = count - i
+μ-loop principals atoms count forms slots₀ i₀ slots i = count - i
 
 loop-holds : tie.Need-loop-holds Inv-loop μ-loop
 loop-holds c =
     let a = c .before .args in
-    passed-none (forms-length (a .principals) (a .atoms) (a .count) (a .forms .now))
+    forms-none (a .principals) (a .atoms) (a .count) (a .forms .now)
 
-turn :
+gave :
     (c : tie.After-check-form Inv-loop μ-loop)
-    → let a = c .before .before .before .before .before .before .before .args in
-    Turn (a .count) (formAnswers (a .principals) (a .atoms) (unpack formEntry (a .count) (a .forms .now))) (c .before .before .before .before .before .loop .i) (c .check-form .result)
-turn c =
-    let a = c .before .before .before .before .before .before .before .args in
-    let i = c .before .before .before .before .before .loop .i in
-    let more = c .before .before .before .before .loop-test .taken in
-    turn-of more (c .before .before .before .before .before .loop .inv) (form-at (a .principals) (a .atoms) (a .count) (a .forms .now) i more) (rw (c .before .before .before .entry-at .ensures, c .before .before .entry-at2 .ensures, c .before .entry-at3 .ensures) at (c .check-form .ensures))
+    → let a = c .before .before .before .before .before .before .before .before .before .args in
+    let l = c .before .before .before .before .before .before .before .loop in
+    c .check-form .result ≡ checkedOf (answer (asked (a .principals) (a .atoms) (a .forms .now) (l .slots) (l .i)) (formAt (l .i)))
+gave c =
+    rw (
+      c .before .before .before .before .before .entry-at .ensures,
+      c .before .before .before .before .entry-at2 .ensures,
+      c .before .before .before .entry-at3 .ensures,
+    )
+    at (rw (c .before .enter-row .ensures .0) at (c .check-form .ensures))
+
+kept :
+    (c : tie.After-check-form Inv-loop μ-loop)
+    → let a = c .before .before .before .before .before .before .before .before .before .args in
+    let l = c .before .before .before .before .before .before .before .loop in
+    c .before .enter-row .last .1 .0 ≡ keptAt (placeIn (a .forms .now) (l .slots) (formRow (a .forms .now) (l .i))) (l .i) (l .slots)
+kept c =
+    rw (
+      c .before .before .before .before .before .entry-at .ensures,
+      c .before .before .before .before .entry-at2 .ensures,
+      c .before .before .before .entry-at3 .ensures,
+    )
+    at (c .before .enter-row .ensures .1)
 
 returns : tie.Need-returns Inv-loop μ-loop
-returns c = turn-stop (turn (c .before .before)) (c .enum-told2 .given .1)
+returns c =
+    let d = c .before .before in
+    let a = d .before .before .before .before .before .before .before .before .before .args in
+    let l = d .before .before .before .before .before .before .before .loop in
+    turn-stop
+    (form-turn (a .principals) (a .atoms) (a .count) (a .forms .now) (l .slots) (l .i) (l .inv)
+    (d .before .before .before .before .before .before .loop-test .taken) (d .check-form .result) (gave d))
+    (c .enum-told2 .given .1)
 
 loop-again : tie.Need-loop-again Inv-loop μ-loop
-loop-again c = turn-go (turn (c .before .before)) (c .enum-told .given .1)
+loop-again c =
+    let d = c .before .before in
+    let a = d .before .before .before .before .before .before .before .before .before .args in
+    let l = d .before .before .before .before .before .before .before .loop in
+    rw (kept d)
+    (forms-more (a .principals) (a .atoms) (a .count) (a .forms .now) (l .slots) (l .i) (l .inv)
+    (d .before .before .before .before .before .before .loop-test .taken) (d .check-form .result) (gave d)
+    (d .before .before .before .before .before .before .before .before .before .pre) (c .enum-told .given .1))
 
 pub check-forms-spec : {M : Type 1} → statement M
 check-forms-spec =
@@ -50,10 +86,11 @@ check-forms-spec =
     (λ c. search needs)
     (λ c κs. search needs)
     (λ c κs. search needs)
+    (λ c κs. search needs)
     (λ c. search needs)
     (λ c. search needs)
     returns
     (λ c. search needs)
     (λ c. search needs)
     loop-again
-    (λ c. passed-all (c .before .loop .inv) (c .loop-test .left)))
+    (λ c. passed-all (c .before .loop .inv .passed) (c .loop-test .left)))

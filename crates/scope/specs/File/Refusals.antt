@@ -1,10 +1,10 @@
 -- 'Of a line in shape': its refusals 3, 4 and 5. Reader, writer and judge alike ask these.
-use Prim.Native.Nat.{ℕ}
+use Prim.Native.Nat.{ℕ, zero, suc}
 use mathlib.Core.List.{List, [], _∷_}
 use mathlib.Core.Bool.{Bool, true, false}
 use lib.Dec.{leb, ltb, eqb}
 use lib.ListN.{length}
-use Rattle.scope.specs.Logic.Form.{both}
+use Rattle.scope.specs.Logic.Form.{both, either, negate}
 use Rattle.scope.specs.File.Request.{Row, policyClass, goalClass}
 use Rattle.scope.specs.Limits.{mostPrincipals, mostAtoms, mostFormulas, mostPolicyLines, mostSteps, mostStepNumber}
 use Rattle.scope.specs.File.Kinds.{Sort, atomNumber, principalNumber, formulaNumber, clauseNumber, worldNumber, Kind, kindIn, operandsOf, formKinds, stepKinds}
@@ -76,10 +76,26 @@ rowRefusal ks principals atoms i r =
     (demand (pass (inRange principals atoms) (kindIn ks (r .kind) .operands) (operandsOf r)) 3
     (demand (pass (isEarlier i) (kindIn ks (r .kind) .operands) (operandsOf r)) 4 0)))
 
--- Of a formula behind the formulas before it.
+-- 'Two equal `form=` lines': the same kind and the same operands.
+unfoldable pub sameRow : Row → Row → Bool
+unfolding both
+sameRow a b = both (eqb (a .kind) (b .kind)) (both (eqb (a .left) (b .left)) (eqb (a .right) (b .right)))
+
+unfoldable pub isAmong : Row → List Row → Bool
+unfolding either sameRow
+isAmong r [] = false
+isAmong r (x ∷ xs) = either (sameRow x r) (isAmong r xs)
+
+-- The first refusal that is met, 0 where there is none.
+unfoldable pub firstOf : ℕ → ℕ → ℕ
+firstOf zero next = next
+firstOf (suc k) next = suc k
+
+-- Of a formula behind the formulas before it. 'Refuse the second .. 15 at the line of the second, after 2, 3 and 4 on the same line.'
 unfoldable pub formRefusal : ℕ → ℕ → List Row → Row → ℕ
-unfolding rowRefusal formKinds
-formRefusal principals atoms before r = rowRefusal formKinds principals atoms (length before) r
+unfolding rowRefusal formKinds demand negate isAmong firstOf
+formRefusal principals atoms before r =
+    firstOf (rowRefusal formKinds principals atoms (length before) r) (demand (negate (isAmong r before)) 15 0)
 
 -- A step names no principal, no atom and no formula.
 unfoldable pub stepRefusal : Row → ℕ

@@ -217,3 +217,31 @@ numbers =
 pub numbers-tell : Tell numbers
 unfolding gate numbers
 numbers-tell = refl
+
+-- No formula twice: 15 at the line of the second, whichever earlier line it repeats.
+unfoldable pub repeats : List Case
+repeats =
+    -- the line before, and one further up
+    case
+    "version=1\nprincipals=1\natoms=1\nformulas=2\nform=top\nform=top\nclauses=0\ngoal=0\nsteps=1\nstep=top\n"
+    (prints 15 6 0) ∷
+    case
+    "version=1\nprincipals=1\natoms=1\nformulas=3\nform=p 0\nform=top\nform=p 0\nclauses=0\ngoal=1\nsteps=1\nstep=top\n"
+    (prints 15 7 0) ∷
+    -- the second without its LF is 2
+    case
+    "version=1\nprincipals=1\natoms=1\nformulas=2\nform=top\nform=top"
+    (prints 2 6 0) ∷
+    -- before a later line, whatever stands there
+    case
+    "version=1\nprincipals=1\natoms=1\nformulas=3\nform=top\nform=top\nform=no\n"
+    (prints 15 6 0) ∷
+    -- another order and another kind are another formula; a policy line may repeat a number
+    case
+    "version=1\nprincipals=1\natoms=1\nformulas=5\nform=p 0\nform=top\nform=and 0 1\nform=and 1 0\nform=imp 0 1\nclauses=2\nclause=2\nclause=2\ngoal=1\nsteps=1\nstep=top\n"
+    (prints 0 0 1) ∷
+    []
+
+pub repeats-tell : Tell repeats
+unfolding gate repeats
+repeats-tell = refl

@@ -1,0 +1,7 @@
+pub mod Equal
+pub mod Slots
+pub mod Ways
+pub mod Numbered
+pub mod Repeats
+pub mod Trees
+pub mod Refused
