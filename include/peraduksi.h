@@ -40,7 +40,8 @@ enum peraduksi_refusal {
     PERADUKSI_ALL_CLOSED = 11,          /* step after everything is closed: step */
     PERADUKSI_STILL_OPEN = 12,          /* steps end with something open: steps + 1 */
     PERADUKSI_TABLE_TOO_SHORT = 13,     /* lent table too short: place 0 */
-    PERADUKSI_OUTPUT_TOO_SHORT = 14     /* output too short: place 0 */
+    PERADUKSI_OUTPUT_TOO_SHORT = 14,    /* output too short: place 0 */
+    PERADUKSI_REPEATED = 15             /* formula that stands on an earlier line already: line */
 };
 
 /* The kinds of formula, with their operands. */

@@ -92,6 +92,7 @@ fn refusals_of_the_document() {
         ("STILL_OPEN", refusal::STILL_OPEN, Reason::StillOpen),
         ("TABLE_TOO_SHORT", refusal::TABLE_TOO_SHORT, Reason::TableTooShort),
         ("OUTPUT_TOO_SHORT", refusal::OUTPUT_TOO_SHORT, Reason::OutputTooShort),
+        ("REPEATED", refusal::REPEATED, Reason::Repeated),
     ];
     let names = named("PERADUKSI_");
     assert_eq!(names["GRANTED"], "0");

@@ -17,6 +17,7 @@ pub mod refusal {
     pub const STILL_OPEN: u8 = 12;
     pub const TABLE_TOO_SHORT: u8 = 13;
     pub const OUTPUT_TOO_SHORT: u8 = 14;
+    pub const REPEATED: u8 = 15;
 }
 
 /// A refusal number and its place; all zero where nothing is refused.
@@ -32,6 +33,11 @@ pub type Refused = Answer;
 /// A refusal at its place, ready to be returned.
 pub fn refuse<T>(refusal: u8, place: usize) -> Result<T, Refused> {
     Err(Answer { refusal, place })
+}
+
+/// Whether the number is one of the reader's for a file, so that no steps are read.
+pub fn is_unread(refusal: u8) -> bool {
+    matches!(refusal, refusal::FILE_TOO_LONG..=refusal::BYTES_AFTER | refusal::REPEATED)
 }
 
 /// The reader's answer; counts and goal are 0 after a refusal.

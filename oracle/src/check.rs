@@ -5,6 +5,7 @@ use crate::answers::refusal::{NAMES_LATER, OUT_OF_RANGE, TABLE_TOO_SHORT, WRONG_
 use crate::answers::{refuse, Refused};
 use crate::classes::{class_of, Class};
 use crate::limits;
+use crate::repeats::Repeats;
 use crate::tables::{Counts, Form, Operand, Tables, KINDS, STEPS};
 use std::ops::RangeInclusive;
 
@@ -54,9 +55,11 @@ fn check_count(count: usize, allowed: RangeInclusive<usize>, line: usize) -> Res
 
 fn check_forms(counts: &Counts, forms: &[u16]) -> Result<Vec<Class>, Refused> {
     let mut classes = Vec::with_capacity(counts.formulas);
+    let mut repeats = Repeats::with_room(counts.formulas);
     for (number, entry) in forms.chunks_exact(3).take(counts.formulas).enumerate() {
         let (kind, operands) = (entry[0].into(), [entry[1].into(), entry[2].into()]);
         check_form(number, kind, operands, counts.principals, counts.atoms)
+            .and_then(|()| repeats.check([entry[0], entry[1], entry[2]]))
             .or_else(|refusal| refuse(refusal, 5 + number))?;
         classes.push(class_of(Form::of(kind, operands[0], operands[1]), &classes));
     }

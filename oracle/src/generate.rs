@@ -16,6 +16,7 @@ pub mod request;
 pub mod search;
 pub mod standing;
 pub mod traps;
+pub mod twice;
 pub mod walks;
 pub mod wrap;
 
@@ -34,8 +35,8 @@ pub struct Text {
     pub want: Option<GateAnswer>,
 }
 
-/// The files made on purpose: document 01's cases, limits, faulty lines, each step in each phase, classes, and what
-/// is easy to get wrong.
+/// The files made on purpose: the documents' cases, limits, faulty lines, each step in each phase, classes, formulas
+/// that stand twice, and what is easy to get wrong.
 pub fn directed() -> Vec<Text> {
     [
         document::numbered(),
@@ -46,6 +47,7 @@ pub fn directed() -> Vec<Text> {
         phases::phases(),
         standing::standings(),
         traps::traps(),
+        twice::twice(),
     ]
     .concat()
 }

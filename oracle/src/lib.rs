@@ -1,4 +1,4 @@
-//! A plain implementation of document 01, with requests b) and f) of document 02: reader, writer, judge and gate, and a generator of requests to compare
+//! A plain implementation of document 01, with requests b), f) and g) of document 02: reader, writer, judge and gate, and a generator of requests to compare
 //! another implementation with.
 
 pub mod answers;
@@ -10,6 +10,7 @@ pub mod generate;
 pub mod judge;
 pub mod limits;
 pub mod read;
+pub mod repeats;
 pub mod tables;
 pub mod walk;
 pub mod write;

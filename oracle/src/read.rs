@@ -5,6 +5,7 @@ use crate::answers::{refuse, ReadAnswer, Refused};
 use crate::check::{check_clause, check_form, check_goal, check_room};
 use crate::classes::{class_of, Class};
 use crate::limits;
+use crate::repeats::Repeats;
 use crate::tables::{Form, Operand, KINDS, STEPS};
 use std::ops::RangeInclusive;
 
@@ -54,13 +55,16 @@ fn read_request(file: &[u8], forms: &mut [u16], clauses: &mut [u16], steps: &mut
 
 fn read_forms(lines: &mut Lines, answer: &ReadAnswer, forms: &mut [u16]) -> Result<Vec<Class>, Refused> {
     let mut classes = Vec::with_capacity(answer.formulas);
+    let mut repeats = Repeats::with_room(answer.formulas);
     for (number, entry) in forms.chunks_exact_mut(3).take(answer.formulas).enumerate() {
         let value = lines.value_of("form")?;
         let Some((kind, operands)) = form_in(value) else {
             return lines.refuse(OUT_OF_SHAPE);
         };
         check_form(number, kind, operands, answer.principals, answer.atoms).or_else(|refusal| lines.refuse(refusal))?;
-        entry.copy_from_slice(&[kind as u16, operands[0] as u16, operands[1] as u16]);
+        let row = [kind as u16, operands[0] as u16, operands[1] as u16];
+        repeats.check(row).or_else(|refusal| lines.refuse(refusal))?;
+        entry.copy_from_slice(&row);
         classes.push(class_of(Form::of(kind, operands[0], operands[1]), &classes));
     }
     Ok(classes)

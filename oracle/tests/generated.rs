@@ -52,7 +52,7 @@ fn every_refusal_of_a_file_is_met_often() {
     for text in generate::texts(5, 6_000) {
         *met.entry(gate(&text.bytes).answer).or_default() += 1;
     }
-    for answer in 0..=12 {
+    for answer in (0..=12).chain([refusal::REPEATED]) {
         assert!(met.get(&answer).is_some_and(|&times| times >= 5), "{answer}: {met:?}");
     }
 }

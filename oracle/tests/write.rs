@@ -110,6 +110,40 @@ fn entries_are_refused_at_their_lines() {
 }
 
 #[test]
+fn a_formula_that_stands_twice_is_refused_at_the_second() {
+    let again = |call: &mut Call, from: usize, to: usize| call.forms.copy_within(3 * from..3 * from + 3, 3 * to);
+    refuses(15, 6, |call| again(call, 0, 1));
+    refuses(15, 9, |call| again(call, 0, 4));
+    refuses(15, 9, |call| again(call, 1, 4));
+    // After 3 and 4 of earlier lines, before anything later: 3 and 4, a class, an entry past the counts, the output.
+    refuses(3, 5, |call| {
+        call.forms[1] = 1;
+        again(call, 1, 2);
+    });
+    refuses(4, 6, |call| {
+        call.forms[5] = 1;
+        again(call, 0, 2);
+    });
+    refuses(15, 7, |call| {
+        again(call, 1, 2);
+        call.forms[9] = 8;
+        call.clauses[0] = 9;
+        call.counts.goal = 9;
+        call.steps[0] = 18;
+        call.forms[3_000] = 1;
+        call.output = 0;
+    });
+    // An unused operand that is not 0 is 3 before it could make a difference.
+    refuses(3, 6, |call| call.forms[3..6].copy_from_slice(&[0, 0, 1]));
+    // A copy behind the count is an entry past the counts.
+    refuses(3, 0, |call| again(call, 1, 5));
+    // Policy lines and the goal may repeat a number.
+    let mut call = p1();
+    call.clauses[..3].copy_from_slice(&[2, 2, 2]);
+    assert_eq!(judge(&call.counts, &call.tables()), Answer { refusal: 9, place: 6 });
+}
+
+#[test]
 fn a_goal_of_no_class_is_refused_at_its_line() {
     // `says 0 bot` is no chunk, so an `imp` from it is no goal.
     refuses(5, 14 + 3, |call| {
@@ -154,7 +188,7 @@ fn a_tail_comes_before_any_answer_about_a_step() {
 
 #[test]
 fn writer_and_judge_refuse_the_same_tables() {
-    let mut met = [0; 15];
+    let mut met = [0; 16];
     for call in generate::tables(21, 6_000) {
         let (written, out) = write_call(&call);
         let judged = judge(&call.counts, &call.tables());
@@ -167,5 +201,5 @@ fn writer_and_judge_refuse_the_same_tables() {
         assert_eq!(written.length == 0, written.refusal != refusal::NONE, "{}", call.name);
         assert!(out[written.length..].iter().all(|&byte| byte == 0), "{}", call.name);
     }
-    assert!([0, 3, 4, 5, 13, 14].iter().all(|&refusal: &usize| met[refusal] > 20), "{met:?}");
+    assert!([0, 3, 4, 5, 13, 14, 15].iter().all(|&refusal: &usize| met[refusal] > 20), "{met:?}");
 }

@@ -21,12 +21,13 @@ pub enum Reason {
     StillOpen = 12,
     TableTooShort = 13,
     OutputTooShort = 14,
+    Repeated = 15,
 }
 
 use Reason::*;
 
 /// Each reason with what it says, by number from 1.
-const REASONS: [(Reason, &str); 14] = [
+const REASONS: [(Reason, &str); 15] = [
     (FileTooLong, "file over 65,536 bytes"),
     (OutOfShape, "line missing, out of shape, or without LF"),
     (OutOfRange, "number outside its range"),
@@ -41,6 +42,7 @@ const REASONS: [(Reason, &str); 14] = [
     (StillOpen, "steps end with something open"),
     (TableTooShort, "lent table too short"),
     (OutputTooShort, "output too short"),
+    (Repeated, "formula that stands on an earlier line already"),
 ];
 
 /// A refusal: why, and the line or the step, from 1, or 0 where there is none to name.
@@ -82,11 +84,11 @@ mod tests {
 
     #[test]
     fn each_number_has_its_own_reason() {
-        for number in 1..=14 {
+        for number in 1..=15 {
             let refusal: Refusal = answered(number, 5, ()).unwrap_err();
             assert_eq!((refusal.number(), refusal.place), (number, 5));
         }
         assert_eq!(answered(0, 0, 7), Ok(7));
-        assert_eq!(REASONS.len(), 14);
+        assert_eq!(REASONS.len(), 15);
     }
 }

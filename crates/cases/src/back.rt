@@ -1,10 +1,13 @@
 // A request file that reads, written back: the text has to be the file again.
 use reader::Reading;
 
-// Whether a file with this answer reads: reading refuses with 1 to 6.
+// Whether a file with this answer reads: reading refuses with 1 to 6 and 15.
 pub(crate) fn reads(answer: u64) -> bool {
     if answer == 0 {
         return true;
+    }
+    if answer == 15 {
+        return false;
     }
     answer > 6
 }

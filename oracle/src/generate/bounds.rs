@@ -178,6 +178,7 @@ fn mixed(ands: usize, cases: usize, tos: usize) -> (Request, usize) {
 /// At a limit, refusals 7, 8 and 9 come before 10.
 fn orders() -> Vec<Text> {
     let (mut request, place) = mixed(100, 0, 156);
+    request.share = true;
     let top = request.add(Form::Top);
     // One world more, so that a world can be there without being above the clause's last one.
     request.goal = request.add(Form::Imp(top, request.goal));

@@ -59,10 +59,10 @@ fn other_side(step: Step) -> Step {
     }
 }
 
-/// One or two formulas or policy lines changed, the steps left as they are.
+/// One or two formulas or policy lines changed, or a formula put in a second time, the steps left as they are.
 pub fn change_request(prng: &mut Prng, request: &mut Request) {
     for _ in 0..prng.between(1, 2) {
-        match prng.below(8) {
+        match prng.below(9) {
             0 if !request.policy.is_empty() => {
                 let at = prng.below(request.policy.len());
                 request.policy.remove(at);
@@ -70,6 +70,13 @@ pub fn change_request(prng: &mut Prng, request: &mut Request) {
             1 if request.policy.len() > 1 => prng.shuffle(&mut request.policy),
             2 => request.policy.push(prng.below(request.forms.len())),
             3 => request.goal = prng.below(request.forms.len() + 1),
+            4 => {
+                let again = prng.pick(&request.forms);
+                match prng.below(3) {
+                    0 => request.forms.push(again),
+                    _ => *request.forms.last_mut().expect("there are some") = again,
+                }
+            }
             _ => {
                 let at = prng.below(request.forms.len());
                 request.forms[at] = changed_form(prng, request.forms[at], request.principals);

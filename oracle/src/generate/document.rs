@@ -28,16 +28,21 @@ step=to 1
 step=hit
 ";
 
-/// A text from its parts, each a list parted by commas; the goal is the last formula.
+/// A text from its parts, each a list parted by commas. The goal is the last formula, or the earlier one that it repeats.
 pub fn text(forms: &str, policy: &str, steps: &str) -> String {
     let lines = |key: &str, list: &str| -> (usize, String) {
         let items: Vec<&str> = list.split(", ").filter(|item| !item.is_empty()).collect();
         (items.len(), items.iter().map(|item| format!("{key}={item}\n")).collect())
     };
+    let (earlier, last) = forms.rsplit_once(", ").unwrap_or(("", forms));
+    let (forms, goal) = match earlier.split(", ").position(|form| form == last) {
+        Some(number) => (earlier, number),
+        None => (forms, forms.split(", ").count() - 1),
+    };
     let ((formulas, forms), (clauses, policy)) = (lines("form", forms), lines("clause", policy));
     let (count, steps) = lines("step", steps);
     let head = format!("version=1\nprincipals=3\natoms=3\nformulas={formulas}\n{forms}");
-    format!("{head}clauses={clauses}\n{policy}goal={}\nsteps={count}\n{steps}", formulas - 1)
+    format!("{head}clauses={clauses}\n{policy}goal={goal}\nsteps={count}\n{steps}")
 }
 
 /// A text with its answer.

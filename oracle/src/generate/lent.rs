@@ -103,8 +103,9 @@ fn lengthen(prng: &mut Prng, call: &mut Call) {
 }
 
 fn put_fault(prng: &mut Prng, call: &mut Call) {
-    match prng.below(12) {
+    match prng.below(13) {
         0 => shorten_table(prng, call),
+        12 => repeat_form(prng, call),
         1 | 2 => fault_in_form(prng, call),
         3 => fault_in_clause(prng, call),
         4 => call.counts.goal = off_number(prng, call.counts.formulas),
@@ -141,6 +142,16 @@ fn fault_in_form(prng: &mut Prng, call: &mut Call) {
         0 => entry[0] = prng.pick(&[8, 9, 255, 256, u16::MAX]),
         1 => entry[0] = prng.below(KINDS.len()) as u16,
         _ => entry[prng.between(1, 2)] = prng.pick(&[1, 2, 16, 256, number as u16, number as u16 + 1, u16::MAX]),
+    }
+}
+
+/// A formula's entry once more: over a later one, or just past the last.
+fn repeat_form(prng: &mut Prng, call: &mut Call) {
+    let count = call.counts.formulas.clamp(1, limits::FORMULAS);
+    let (first, second) = (prng.below(count), prng.below(count + 1));
+    let (first, second) = (first.min(second), first.max(second));
+    if call.forms.len() >= 3 * second + 3 {
+        call.forms.copy_within(3 * first..3 * first + 3, 3 * second);
     }
 }
 

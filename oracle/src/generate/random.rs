@@ -10,7 +10,6 @@ pub fn random_policy(prng: &mut Prng) -> Request {
     let principals = prng.pick(&[1, 2, 2, 3, 3, 4, limits::PRINCIPALS]);
     let atoms = prng.pick(&[1, 2, 2, 3, 4, limits::ATOMS]);
     let mut request = Request::new(principals, atoms);
-    request.share = !prng.once_in(3);
     if prng.once_in(3) {
         add_delegations(prng, &mut request);
     }

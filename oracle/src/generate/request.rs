@@ -1,7 +1,7 @@
 //! A request under construction, of any size, and its text and tables.
 
 use super::Text;
-use crate::answers::GateAnswer;
+use crate::answers::{is_unread, GateAnswer};
 use crate::limits;
 use crate::tables::{Counts, Form, Operand, Step, KINDS, STEPS};
 
@@ -88,8 +88,7 @@ impl Request {
 
     /// The text with an answer that is known from how it was made.
     pub fn wanting(&self, name: impl Into<String>, answer: u8, place: usize) -> Text {
-        // Refusals 1 to 6 are the reader's, which reads no steps then.
-        let steps = if matches!(answer, 1..=6) { 0 } else { self.steps.len() };
+        let steps = if is_unread(answer) { 0 } else { self.steps.len() };
         Text { want: Some(GateAnswer { answer, place, steps }), ..self.named(name) }
     }
 }

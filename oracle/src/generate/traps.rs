@@ -3,7 +3,7 @@
 use super::document::{case, text};
 use super::Text;
 
-/// Name, formulas, policy, steps, answer, place; the goal is the last formula.
+/// Name, formulas, policy, steps, answer, place; the goal is the last formula, or the earlier one that it repeats.
 type Trap = (&'static str, &'static str, &'static str, &'static str, u8, usize);
 
 pub fn traps() -> Vec<Text> {
@@ -63,14 +63,7 @@ const FACTS: [Trap; 33] = [
         0,
         0,
     ),
-    (
-        "said-above-said",
-        "p 0, says 1 0, top, says 1 0, imp 2 3, says 0 4",
-        "1",
-        "says, imp, drop, says, use 0, to 3, hit",
-        0,
-        0,
-    ),
+    ("said-above-said", "p 0, says 1 0, top, imp 2 1, says 0 3", "1", "says, imp, drop, says, use 0, to 3, hit", 0, 0),
     // A clause that is said is said up to there, and no more than said.
     (
         "said-above-not-below",
@@ -208,7 +201,7 @@ const SUBGOALS: [Trap; 6] = [
 ];
 
 const CLAUSES: [Trap; 9] = [
-    ("same-atom", "p 0, p 0, p 0", "0", "use 0, hit", 0, 0),
+    ("same-atom", "p 0, p 0", "0", "use 0, hit", 0, 0),
     ("another-atom", "p 1, p 0", "0", "use 0, hit", 9, 2),
     ("sf-is-no-clause", "sf 0 1, p 0", "0, 1", "use 0", 8, 1),
     ("sf-has-a-number", "sf 0 1, p 0", "0, 1", "use 1, hit", 0, 0),

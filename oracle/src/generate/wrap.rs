@@ -46,7 +46,6 @@ fn wrap_in_worlds(request: &mut Request, count: usize) {
 fn wrap_in_clauses(prng: &mut Prng, request: &mut Request, count: usize) {
     let clause = Form::P(prng.below(request.atoms));
     let clause = request.add(clause);
-    request.share = false;
     let chunk = (1..count).fold(clause, |rest, _| request.add(Form::And(clause, rest)));
     request.goal = request.add(Form::Imp(chunk, request.goal));
     let lines = request.policy.len();
