@@ -2,6 +2,7 @@
 
 root=$(cd "$(dirname "${BASH_SOURCE[0]}")/.." && pwd)
 differ=$root/oracle/target/release/differ
+calls=$root/oracle/target/release/calls
 
 # Builds the programs of oracle/.
 build_oracle() {
@@ -40,24 +41,28 @@ prove() { # WORD NAME
     return "$status"
 }
 
-# Sees to it that target/bin/NAME is there and no older than the crates, and puts the words that run it into
-# `program`. It is run as rt runs it: with the kit's loader and C library, and with the kit's emulator where it has
-# one, on a processor that is not x86-64.
+# Puts the words that run an x86-64 program into `program`, and the kit's folder into `kit`. It is run as rt runs it: with the kit's
+# loader and C library, and with the kit's emulator where it has one, on a processor that is not x86-64.
+run_by_kit() { # PROGRAM
+    local guide
+    guide=$(rt doc)
+    kit=${guide%/docs/START-HERE.md}/on/$(uname -m)/toolchain
+    program=("$kit/lib/ld-linux-x86-64.so.2" --library-path "$kit/lib" "$1")
+    if [[ -x $kit/bin/qemu-x86_64 ]]; then
+        program=("$kit/bin/qemu-x86_64" "${program[@]}")
+    fi
+}
+
+# Sees to it that target/bin/NAME is there and no older than the crates, and puts the words that run it into `program`.
 build_program() { # NAME
-    local built=$root/target/bin/$1 guide kit emulator
+    local built=$root/target/bin/$1
     if [[ ! -x $built || -n $(find "$root/crates" "$root/crates.txt" -newer "$built" -print -quit) ]]; then
         mkdir -p "$root/target" && : >"$root/target/began"
         prove check "$1" || return 1
         # What has not changed is not built again, and need not be asked about again.
         touch -r "$root/target/began" "$built"
     fi
-    guide=$(rt doc)
-    kit=${guide%/docs/START-HERE.md}/on/$(uname -m)/toolchain
-    emulator=$kit/bin/qemu-x86_64
-    program=("$kit/lib/ld-linux-x86-64.so.2" --library-path "$kit/lib" "$built")
-    if [[ -x $emulator ]]; then
-        program=("$emulator" "${program[@]}")
-    fi
+    run_by_kit "$built"
 }
 
 # Is the processor one that the static library is for? Says why not.
@@ -77,4 +82,21 @@ build_library() {
 build_compare() { # PROFILE
     build_library
     cargo build --profile "$1" --quiet --manifest-path "$root/compare/Cargo.toml" --target-dir "$root/compare/target"
+}
+
+# Builds compare/driver for x86-64 with the kit's own compiler, linker and C library, and puts the words that run it into `program`:
+# for a processor on which the programs of compare/ cannot be linked. Says why not.
+build_driver() {
+    local built=$root/target/driver
+    run_by_kit "$built"
+    if [[ ! -x $kit/bin/clang || ! -x $kit/bin/ld.lld ]] || ! command -v cc >/dev/null; then
+        echo "no compiler for x86-64 in the kit: $1 is left out here"
+        return 1
+    fi
+    build_library || return 2
+    "$kit/bin/clang" --target=x86_64-linux-gnu -std=c11 -Wall -Wextra -Werror -O2 -fPIC -ffreestanding -nostdinc \
+        -isystem "$(cc -print-file-name=include)" -I"$root/include" -c "$root/compare/driver/calls.c" -o "$built.o" &&
+        "$kit/bin/ld.lld" -pie --dynamic-linker "$kit/lib/ld-linux-x86-64.so.2" -o "$built" "$kit/lib/Scrt1.o" "$kit/lib/crti.o" \
+            "$kit/lib/crtbeginS.o" "$built.o" "$root/target/staticlib/libperaduksi.a" "$kit/lib/libc.so.6" "$kit/lib/libc_nonshared.a" \
+            "$kit/lib/libgcc.a" "$kit/lib/crtendS.o" "$kit/lib/crtn.o" || return 2
 }
