@@ -1,2 +1,3 @@
 pub mod Printing
 pub mod Promised
+pub mod OneNumber
