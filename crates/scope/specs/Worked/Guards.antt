@@ -221,10 +221,13 @@ numbers-tell = refl
 -- No formula twice: 15 at the line of the second, whichever earlier line it repeats.
 unfoldable pub repeats : List Case
 repeats =
-    -- the line before, and one further up
+    -- the line before, the second of the lines before, and one further up
     case
     "version=1\nprincipals=1\natoms=1\nformulas=2\nform=top\nform=top\nclauses=0\ngoal=0\nsteps=1\nstep=top\n"
     (prints 15 6 0) ∷
+    case
+    "version=1\nprincipals=1\natoms=1\nformulas=3\nform=p 0\nform=top\nform=top\nclauses=0\ngoal=1\nsteps=1\nstep=top\n"
+    (prints 15 7 0) ∷
     case
     "version=1\nprincipals=1\natoms=1\nformulas=3\nform=p 0\nform=top\nform=p 0\nclauses=0\ngoal=1\nsteps=1\nstep=top\n"
     (prints 15 7 0) ∷
