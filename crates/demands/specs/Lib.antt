@@ -3,3 +3,4 @@ pub mod Judged
 pub mod Ranges
 pub mod Gate
 pub mod AnswerRanges
+pub mod Statements

@@ -9,3 +9,4 @@ pub mod Cases
 pub mod Unasked
 pub mod Witnesses
 pub mod Rows
+pub mod Statements

@@ -18,3 +18,4 @@ pub mod Passed
 pub mod Readable
 pub mod Simulation
 pub mod Afresh
+pub mod Statements
