@@ -10,7 +10,7 @@ use crate::tables::{Form, Step};
 
 /// Every heavy request; all are granted but the first, which reads to its end and is refused at its first step.
 pub fn heavy() -> Vec<Text> {
-    let mut texts = vec![longest_text(), longest_granted(), doubling()];
+    let mut texts = vec![longest_text(), longest_granted(), doubling(), one_head()];
     for (worlds, principals) in [(1, 1), (1, 16), (8, 4), (31, 1), (31, 16), (32, 16), (63, 1), (63, 16), (64, 16)] {
         let request = asking(worlds, principals);
         texts.push(request.wanting(format!("h-asking-{worlds}-worlds-{principals}-principals"), 0, 0));
@@ -75,6 +75,40 @@ fn doubling() -> Text {
     request.goal = limits::FORMULAS - 1;
     request.steps = [vec![Step::Or2; limits::FORMULAS - 1], vec![Step::Top]].concat();
     request.wanting("h-doubling", 0, 0)
+}
+
+/// As many formulas as may be, all that can with one head in the slots of crates/numbering: what a hostile sender makes of its sum. Should
+/// the sum there be another some day, this is a request like others.
+fn one_head() -> Text {
+    let head = |form: Form| {
+        let [kind, left, right] = form.entry();
+        (40_503 * left + 30_029 * right + 9_973 * kind) / 64 % 1_024
+    };
+    let mut request = Request::new(limits::PRINCIPALS, limits::ATOMS);
+    request.share = false;
+    (0..limits::ATOMS).for_each(|atom| _ = request.add(Form::P(atom)));
+    let room = limits::FORMULAS - 1;
+    // The formulas that name this one as the larger of their parts, from the first on: each then names earlier ones only.
+    for last in 0.. {
+        let pairs = (0..=last).flat_map(|other| [(last, other), (other, last)]);
+        for (left, right) in pairs {
+            for form in [Form::And(left, right), Form::Or(left, right), Form::Imp(left, right)] {
+                if head(form) == 7
+                    && request.forms.len() < room
+                    && request.forms.len() > last
+                    && !request.forms.contains(&form)
+                {
+                    request.add(form);
+                }
+            }
+        }
+        if request.forms.len() == room || last == room {
+            break;
+        }
+    }
+    request.goal = request.add(Form::Top);
+    request.steps = vec![Step::Top];
+    request.wanting("h-one-head", 0, 0)
 }
 
 /// About 2,048 steps in the last of so many worlds, nearly all of which ask about facts: `to` on an `imp` whose

@@ -51,7 +51,8 @@ fn main() {
     let requests: Vec<Request> = heavy::heavy().iter().map(Request::of).collect();
     let small: Vec<Text> = heavy::small(1, SMALL).collect();
     println!("{:52} {:>24} {:>24} {:>20}", "one call", "library", "oracle", "library / oracle");
-    for request in requests.iter().filter(|request| request.name.contains("longest")) {
+    let is_read = |request: &&Request| ["longest", "one-head"].iter().any(|name| request.name.contains(name));
+    for request in requests.iter().filter(is_read) {
         let bytes = request.file.len();
         bench_read(&format!("read {} ({bytes} bytes)", request.name), request);
         bench_write(&format!("write {} ({bytes} bytes)", request.name), request);
