@@ -1,4 +1,4 @@
-// The checks over counts and lent tables that writer and judge both make: 13; then 3, 4 or 5 at the line where the text would have it;
+// The checks over counts and lent tables that writer and judge both make: 13; then 3, 4, 15 or 5 at the line where the text has it;
 // then 3 at place 0 for a nonzero entry past the counts. The first met is the answer.
 ghost use mathlib.Core.Path.{_≡_};
 ghost use mathlib.Core.List.{[]};

@@ -1,4 +1,4 @@
--- The request that a text gives, or its refusal: 'lines in order, each 2, 3, 4, 5; then 6'.
+-- The request that a text gives, or its refusal: 'lines in order, each 2, 3, 4, 5; then 6', with 15 after 4.
 use Prim.Native.Nat.{ℕ, suc}
 use mathlib.Core.List.{List, [], _∷_}
 use lib.ListN.{length}

@@ -1,4 +1,4 @@
--- 'Of a line in shape': its refusals 3, 4 and 5. Reader, writer and judge alike ask these.
+-- 'Of a line in shape': its refusals 3, 4 and 5, and 15 of document 02. Reader, writer and judge alike ask these.
 use Prim.Native.Nat.{ℕ, zero, suc}
 use mathlib.Core.List.{List, [], _∷_}
 use mathlib.Core.Bool.{Bool, true, false}
