@@ -4,6 +4,7 @@ use super::{empty, Request};
 use oracle::limits;
 use std::arch::asm;
 use std::hint::black_box;
+use std::ptr;
 use std::thread;
 
 /// The bytes painted, and those next to the stack pointer that are left alone: what the compiler itself may keep there.
@@ -14,31 +15,21 @@ const PAINT: u8 = 0xa5;
 /// The bytes of stack that a call takes, beside what its caller has.
 #[inline(never)]
 fn depth(call: &mut dyn FnMut()) -> usize {
+    let pointer: usize;
+    // SAFETY: this only reads the stack pointer.
+    unsafe {
+        #[cfg(target_arch = "x86_64")]
+        asm!("mov {}, rsp", out(reg) pointer);
+        #[cfg(target_arch = "aarch64")]
+        asm!("mov {}, sp", out(reg) pointer);
+    }
+    let lowest = ptr::with_exposed_provenance_mut::<u8>(pointer - PAINTED);
     // SAFETY: the thread has twice as much stack; nothing lives below the spared bytes while the paint is put there and read.
-    unsafe {
-        asm!(
-            "lea rdi, [rsp - {painted}]",
-            "rep stosb",
-            painted = const PAINTED,
-            in("al") PAINT,
-            inout("rcx") PAINTED - SPARED => _,
-            out("rdi") _,
-        );
-    }
+    unsafe { ptr::write_bytes(lowest, PAINT, PAINTED - SPARED) };
     call();
-    let left: usize;
     // SAFETY: as above; this only reads.
-    unsafe {
-        asm!(
-            "lea rdi, [rsp - {painted}]",
-            "repe scasb",
-            painted = const PAINTED,
-            in("al") PAINT,
-            inout("rcx") PAINTED - SPARED => left,
-            out("rdi") _,
-        );
-    }
-    left + SPARED + 1
+    let is_painted = |at: &usize| unsafe { lowest.add(*at).read_volatile() } == PAINT;
+    PAINTED - (0..PAINTED - SPARED).take_while(is_painted).count()
 }
 
 fn deepest(call: &mut (dyn FnMut() + Send)) -> usize {
