@@ -28,13 +28,14 @@ static bool agrees(struct peraduksi_printed printed, size_t length)
     struct peraduksi_reading read = peraduksi_read(file, length, forms, PERADUKSI_FORMS_ROOM, policy, PERADUKSI_POLICY_ROOM,
                                                    steps, PERADUKSI_STEPS_ROOM);
     if (read.refusal != PERADUKSI_GRANTED) {
-        bool alike = read.refusal == printed.answer && read.place == printed.place;
+        bool alike = read.refusal == printed.answer && read.place == printed.place && read.column == printed.column;
         puts(alike ? "not read" : "DIFFERENT");
         return alike;
     }
     struct peraduksi_answer judged = peraduksi_judge(read.counts, forms, PERADUKSI_FORMS_ROOM, policy, PERADUKSI_POLICY_ROOM,
                                                      steps, PERADUKSI_STEPS_ROOM);
-    bool alike = judged.refusal == printed.answer && judged.place == printed.place && written_back(read.counts, length);
+    bool judged_alike = judged.refusal == printed.answer && judged.place == printed.place && printed.column == 0;
+    bool alike = judged_alike && written_back(read.counts, length);
     puts(alike ? "written back the same" : "DIFFERENT");
     return alike;
 }
@@ -58,7 +59,8 @@ int main(int argc, char **argv)
     }
 
     struct peraduksi_printed printed = peraduksi_gate(file, length);
-    printf("answer=%u\nplace=%u\nsteps=%u\n", (unsigned)printed.answer, (unsigned)printed.place, (unsigned)printed.steps);
+    printf("answer=%u\nplace=%u\n", (unsigned)printed.answer, (unsigned)printed.place);
+    printf("steps=%u\ncolumn=%u\n", (unsigned)printed.steps, (unsigned)printed.column);
     bool alike = agrees(printed, length);
     /* What stands in a buffer is not written yet. */
     if (fflush(stdout) != 0 || ferror(stdout)) {

@@ -28,7 +28,7 @@ extern "C" {
 enum peraduksi_refusal {
     PERADUKSI_GRANTED = 0,              /* granted, read or written: place 0 */
     PERADUKSI_FILE_TOO_LONG = 1,        /* file over 65,536 bytes: place 0 */
-    PERADUKSI_OUT_OF_SHAPE = 2,         /* line missing, out of shape, or without LF: line */
+    PERADUKSI_OUT_OF_SHAPE = 2,         /* line missing, out of shape, or without LF: line, and its column */
     PERADUKSI_OUT_OF_RANGE = 3,         /* number outside its range; in tables see below: line, or 0 */
     PERADUKSI_NAMES_LATER = 4,          /* formula names itself or a later one: line */
     PERADUKSI_WRONG_CLASS = 5,          /* policy line or goal of the wrong class: line */
@@ -116,10 +116,13 @@ struct peraduksi_counts {
     uint16_t steps;
 };
 
-/* The counts are all 0 after a refusal. */
+/* The column is that of PERADUKSI_OUT_OF_SHAPE, from 1: the first byte of the line at which it can no longer be a line of the right
+   shape, the LF counted as a byte, or one past the last where the file ends too early; 0 with every other answer. The counts are
+   all 0 after a refusal. */
 struct peraduksi_reading {
     uint16_t refusal;
     uint32_t place;
+    uint16_t column;
     struct peraduksi_counts counts;
 };
 
@@ -130,16 +133,19 @@ struct peraduksi_writing {
     size_t length;
 };
 
+/* The column is 0: no line of a text is out of shape here. */
 struct peraduksi_answer {
     uint16_t refusal;
     uint32_t place;
+    uint16_t column;
 };
 
-/* The three numbers that the gate program prints; steps is 0 if reading is refused. */
+/* The four numbers that the gate program prints; steps is 0 if reading is refused, and the column is the reader's. */
 struct peraduksi_printed {
     uint16_t answer;
     uint32_t place;
     uint16_t steps;
+    uint16_t column;
 };
 
 /* Reads a request file into the three tables. Entries past the last one read are 0; after a refusal every table is all 0. */

@@ -20,7 +20,7 @@ struct frame {
 
 /* What comes back for it; the three tables, or the output, follow. The number is the text's length, or the gate's steps. */
 struct back {
-    uint32_t refusal, place, number;
+    uint32_t refusal, place, column, number;
     struct peraduksi_counts counts;
 };
 
@@ -90,10 +90,10 @@ static int give_tables(const struct frame *f)
 /* One call with nothing around it. */
 __attribute__((noinline)) static struct back made(const struct frame *f)
 {
-    struct back back = {0, 0, 0, f->counts};
+    struct back back = {0, 0, 0, 0, f->counts};
     if (f->call == READ) {
         struct peraduksi_reading got = peraduksi_read(bytes, f->bytes, forms, f->forms, policy, f->policy, steps, f->steps);
-        return (struct back){got.refusal, got.place, 0, got.counts};
+        return (struct back){got.refusal, got.place, got.column, 0, got.counts};
     }
     if (f->call == WRITE) {
         struct peraduksi_writing got =
@@ -101,10 +101,10 @@ __attribute__((noinline)) static struct back made(const struct frame *f)
         back.refusal = got.refusal, back.place = got.place, back.number = (uint32_t)got.length;
     } else if (f->call == JUDGE) {
         struct peraduksi_answer got = peraduksi_judge(f->counts, forms, f->forms, policy, f->policy, steps, f->steps);
-        back.refusal = got.refusal, back.place = got.place;
+        back.refusal = got.refusal, back.place = got.place, back.column = got.column;
     } else {
         struct peraduksi_printed got = peraduksi_gate(bytes, f->bytes);
-        back.refusal = got.answer, back.place = got.place, back.number = got.steps;
+        back.refusal = got.answer, back.place = got.place, back.column = got.column, back.number = got.steps;
     }
     return back;
 }

@@ -47,11 +47,13 @@ pub mod ours {
         let (mut forms, mut clauses, mut steps) = (loan.forms.clone(), loan.clauses.clone(), loan.steps.clone());
         let got = peraduksi::read(&loan.file, &mut forms, &mut clauses, &mut steps);
         let Answer { refusal, place } = answer_of(&got);
+        let column = got.err().map_or(0, |refusal| refusal.column.into());
         // After a refusal the wrapper gives no counts.
         let counts = got.unwrap_or_default();
         let answer = ReadAnswer {
             refusal,
             place,
+            column,
             principals: counts.principals.into(),
             atoms: counts.atoms.into(),
             formulas: counts.formulas.into(),
@@ -75,7 +77,12 @@ pub mod ours {
 
     pub fn gate(file: &[u8]) -> GateAnswer {
         let printed = peraduksi::gate(file);
-        GateAnswer { answer: printed.answer as u8, place: printed.place as usize, steps: printed.steps.into() }
+        GateAnswer {
+            answer: printed.answer as u8,
+            place: printed.place as usize,
+            steps: printed.steps.into(),
+            column: printed.column.into(),
+        }
     }
 }
 

@@ -45,6 +45,8 @@ pub fn is_unread(refusal: u8) -> bool {
 pub struct ReadAnswer {
     pub refusal: u8,
     pub place: usize,
+    /// For refusal 2 the column of the line, from 1; else 0.
+    pub column: usize,
     pub principals: usize,
     pub atoms: usize,
     pub formulas: usize,
@@ -67,4 +69,6 @@ pub struct GateAnswer {
     pub answer: u8,
     pub place: usize,
     pub steps: usize,
+    /// For refusal 2 the column of the line, from 1; else 0.
+    pub column: usize,
 }

@@ -19,9 +19,9 @@ pub fn gate_by(way: Way, file: &[u8]) -> GateAnswer {
     let mut steps = [0; limits::STEPS_ROOM];
     let answer = read(file, &mut forms, &mut clauses, &mut steps);
     if answer.refusal != refusal::NONE {
-        return GateAnswer { answer: answer.refusal, place: answer.place, steps: 0 };
+        return GateAnswer { answer: answer.refusal, place: answer.place, steps: 0, column: answer.column };
     }
     let tables = Tables { forms: &forms, clauses: &clauses, steps: &steps };
     let judged = judge_by(way, &Counts::from(&answer), &tables);
-    GateAnswer { answer: judged.refusal, place: judged.place, steps: answer.steps }
+    GateAnswer { answer: judged.refusal, place: judged.place, steps: answer.steps, column: 0 }
 }

@@ -3,6 +3,7 @@
 pub mod bounds;
 pub mod build;
 pub mod change;
+pub mod columns;
 pub mod derive;
 pub mod document;
 pub mod faults;
@@ -22,7 +23,7 @@ pub mod wrap;
 
 pub use lent::{loans, tables, Call, Loan};
 
-use crate::answers::GateAnswer;
+use crate::answers::{refusal, GateAnswer};
 use prng::Prng;
 use request::Request;
 
@@ -32,11 +33,36 @@ pub struct Text {
     pub name: String,
     pub bytes: Vec<u8>,
     /// The answer, where it is known from how the file was made and without asking the gate.
-    pub want: Option<GateAnswer>,
+    pub want: Option<Want>,
+}
+
+/// An answer that is known beforehand.
+#[derive(Clone, Copy, Debug, PartialEq, Eq)]
+pub struct Want {
+    pub answer: u8,
+    pub place: usize,
+    pub steps: usize,
+    /// Refusal 2 has a column, which may not be known.
+    pub column: Option<usize>,
+}
+
+impl Want {
+    pub fn new(answer: u8, place: usize, steps: usize) -> Want {
+        Want { answer, place, steps, column: (answer != refusal::OUT_OF_SHAPE).then_some(0) }
+    }
+
+    pub fn at_column(self, column: usize) -> Want {
+        Want { column: Some(column), ..self }
+    }
+
+    pub fn is_met_by(&self, got: GateAnswer) -> bool {
+        (self.answer, self.place, self.steps) == (got.answer, got.place, got.steps)
+            && self.column.is_none_or(|column| column == got.column)
+    }
 }
 
 /// The files made on purpose: the documents' cases, limits, faulty lines, each step in each phase, classes, formulas
-/// that stand twice, and what is easy to get wrong.
+/// that stand twice, columns, and what is easy to get wrong.
 pub fn directed() -> Vec<Text> {
     [
         document::numbered(),
@@ -48,16 +74,17 @@ pub fn directed() -> Vec<Text> {
         standing::standings(),
         traps::traps(),
         twice::twice(),
+        columns::columns(),
     ]
     .concat()
 }
 
-/// `count` files: every third one made on purpose until there are no more, the others random.
+/// `count` files: every second one made on purpose until there are no more, the others random.
 pub fn texts(seed: u64, count: usize) -> impl Iterator<Item = Text> {
     let mut on_purpose = directed();
     Prng::new(seed, u64::MAX).shuffle(&mut on_purpose);
     (0..count).map(move |index| {
-        let due = if index % 3 == 0 { on_purpose.pop() } else { None };
+        let due = if index % 2 == 0 { on_purpose.pop() } else { None };
         due.unwrap_or_else(|| random_text(seed, index))
     })
 }

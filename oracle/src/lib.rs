@@ -1,4 +1,4 @@
-//! A plain implementation of document 01, with requests b), f) and g) of document 02: reader, writer, judge and gate, and a generator of requests to compare
+//! A plain implementation of document 01, with requests b), f), g) and d) of document 02: reader, writer, judge and gate, and a generator of requests to compare
 //! another implementation with.
 
 pub mod answers;
@@ -11,6 +11,7 @@ pub mod judge;
 pub mod limits;
 pub mod read;
 pub mod repeats;
+pub mod shapes;
 pub mod tables;
 pub mod walk;
 pub mod write;

@@ -6,6 +6,7 @@ use crate::check::{check_clause, check_form, check_goal, check_room};
 use crate::classes::{class_of, Class};
 use crate::limits;
 use crate::repeats::Repeats;
+use crate::shapes::{number_at, Line};
 use crate::tables::{Form, Operand, KINDS, STEPS};
 use std::ops::RangeInclusive;
 
@@ -15,26 +16,32 @@ pub fn read(file: &[u8], forms: &mut [u16], clauses: &mut [u16], steps: &mut [u1
     forms.fill(0);
     clauses.fill(0);
     steps.fill(0);
-    read_request(file, forms, clauses, steps).unwrap_or_else(|refused| {
+    let mut lines = Lines { rest: file, line: 0, last: Line::Number("version"), from: file };
+    read_request(&mut lines, forms, clauses, steps).unwrap_or_else(|refused| {
         forms.fill(0);
         clauses.fill(0);
         steps.fill(0);
-        ReadAnswer { refusal: refused.refusal, place: refused.place, ..ReadAnswer::default() }
+        let column = if refused.refusal == OUT_OF_SHAPE { lines.last.column(lines.from) } else { 0 };
+        ReadAnswer { refusal: refused.refusal, place: refused.place, column, ..ReadAnswer::default() }
     })
 }
 
-fn read_request(file: &[u8], forms: &mut [u16], clauses: &mut [u16], steps: &mut [u16]) -> Result<ReadAnswer, Refused> {
+fn read_request(
+    lines: &mut Lines,
+    forms: &mut [u16],
+    clauses: &mut [u16],
+    steps: &mut [u16],
+) -> Result<ReadAnswer, Refused> {
     check_room(forms.len(), clauses.len(), steps.len())?;
-    if file.len() > limits::FILE {
+    if lines.rest.len() > limits::FILE {
         return refuse(FILE_TOO_LONG, 0);
     }
-    let mut lines = Lines { rest: file, line: 0 };
     let mut answer = ReadAnswer::default();
     lines.count_of("version", 1..=1)?;
     answer.principals = lines.count_of("principals", 1..=limits::PRINCIPALS)?;
     answer.atoms = lines.count_of("atoms", 1..=limits::ATOMS)?;
     answer.formulas = lines.count_of("formulas", 1..=limits::FORMULAS)?;
-    let classes = read_forms(&mut lines, &answer, forms)?;
+    let classes = read_forms(lines, &answer, forms)?;
     answer.lines = lines.count_of("clauses", 0..=limits::LINES)?;
     for clause in &mut clauses[..answer.lines] {
         let number = lines.number_of("clause")?;
@@ -45,7 +52,7 @@ fn read_request(file: &[u8], forms: &mut [u16], clauses: &mut [u16], steps: &mut
     check_goal(answer.goal, &classes).or_else(|refusal| lines.refuse(refusal))?;
     answer.steps = lines.count_of("steps", 1..=limits::STEPS)?;
     for entry in steps.chunks_exact_mut(2).take(answer.steps) {
-        read_step(&mut lines, entry)?;
+        read_step(lines, entry)?;
     }
     if !lines.rest.is_empty() {
         return refuse(BYTES_AFTER, lines.line + 1);
@@ -57,7 +64,7 @@ fn read_forms(lines: &mut Lines, answer: &ReadAnswer, forms: &mut [u16]) -> Resu
     let mut classes = Vec::with_capacity(answer.formulas);
     let mut repeats = Repeats::with_room(answer.formulas);
     for (number, entry) in forms.chunks_exact_mut(3).take(answer.formulas).enumerate() {
-        let value = lines.value_of("form")?;
+        let value = lines.value_of(Line::Form)?;
         let Some((kind, operands)) = form_in(value) else {
             return lines.refuse(OUT_OF_SHAPE);
         };
@@ -71,7 +78,7 @@ fn read_forms(lines: &mut Lines, answer: &ReadAnswer, forms: &mut [u16]) -> Resu
 }
 
 fn read_step(lines: &mut Lines, entry: &mut [u16]) -> Result<(), Refused> {
-    let value = lines.value_of("step")?;
+    let value = lines.value_of(Line::Step)?;
     let Some((kind, number)) = step_in(value) else {
         return lines.refuse(OUT_OF_SHAPE);
     };
@@ -82,10 +89,12 @@ fn read_step(lines: &mut Lines, entry: &mut [u16]) -> Result<(), Refused> {
     Ok(())
 }
 
-/// The rest of the file and the number of the line last taken from it.
+/// The rest of the file, the number of the line last taken from it, what stands there, and the file from there on.
 struct Lines<'a> {
     rest: &'a [u8],
     line: usize,
+    last: Line,
+    from: &'a [u8],
 }
 
 impl<'a> Lines<'a> {
@@ -95,28 +104,30 @@ impl<'a> Lines<'a> {
     }
 
     /// Takes the next line and hands back what stands after its equals sign.
-    fn value_of(&mut self, key: &str) -> Result<&'a [u8], Refused> {
+    fn value_of(&mut self, wanted: Line) -> Result<&'a [u8], Refused> {
         self.line += 1;
+        self.last = wanted;
+        self.from = self.rest;
         let Some(end) = self.rest.iter().position(|&byte| byte == b'\n') else {
             return self.refuse(OUT_OF_SHAPE);
         };
         let (line, rest) = (&self.rest[..end], &self.rest[end + 1..]);
         self.rest = rest;
-        match line.strip_prefix(key.as_bytes()).and_then(|after| after.strip_prefix(b"=")) {
+        match line.strip_prefix(wanted.key().as_bytes()).and_then(|after| after.strip_prefix(b"=")) {
             Some(value) => Ok(value),
             None => self.refuse(OUT_OF_SHAPE),
         }
     }
 
-    fn number_of(&mut self, key: &str) -> Result<usize, Refused> {
-        let value = self.value_of(key)?;
+    fn number_of(&mut self, key: &'static str) -> Result<usize, Refused> {
+        let value = self.value_of(Line::Number(key))?;
         match number_in(value) {
             Some(number) => Ok(number),
             None => self.refuse(OUT_OF_SHAPE),
         }
     }
 
-    fn count_of(&mut self, key: &str, allowed: RangeInclusive<usize>) -> Result<usize, Refused> {
+    fn count_of(&mut self, key: &'static str, allowed: RangeInclusive<usize>) -> Result<usize, Refused> {
         let count = self.number_of(key)?;
         if allowed.contains(&count) {
             Ok(count)
@@ -126,13 +137,10 @@ impl<'a> Lines<'a> {
     }
 }
 
-/// A number of 1 to 5 digits, no leading zero but in 0 itself.
+/// The number that an item is.
 fn number_in(item: &[u8]) -> Option<usize> {
-    let shaped = matches!(item.len(), 1..=5) && item.iter().all(u8::is_ascii_digit);
-    if !shaped || (item.len() > 1 && item[0] == b'0') {
-        return None;
-    }
-    Some(item.iter().fold(0, |number, digit| 10 * number + usize::from(digit - b'0')))
+    let number = number_at(item);
+    (number.length > 0 && number.length == item.len()).then_some(number.value)
 }
 
 /// Kind and operands of a `form=` value in shape; operands that the kind lacks are 0.

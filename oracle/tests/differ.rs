@@ -47,7 +47,7 @@ fn right_answers_pass() {
 #[test]
 fn each_number_of_each_line_counts() {
     let right = answers();
-    for (index, part) in [(0, 0), (150, 1), (299, 2)] {
+    for (index, part) in [(0, 0), (150, 1), (299, 2), (77, 3)] {
         let mut lines = right.clone();
         let mut numbers: Vec<usize> = lines[index].split(' ').map(|number| number.parse().unwrap()).collect();
         numbers[part] += 1;
@@ -64,7 +64,7 @@ fn a_line_missing_or_too_many_fails() {
     let (said, status) = compared(&right[..COUNT - 1], &[]);
     assert_eq!((said[0].as_str(), status), ("299 lines for 300 requests", 1));
     assert_eq!(said.last().unwrap(), "299 compared, 0 differ");
-    let (said, status) = compared(&[right, vec!["0 0 1".into()]].concat(), &[]);
+    let (said, status) = compared(&[right, vec!["0 0 1 0".into()]].concat(), &[]);
     assert_eq!((said[0].as_str(), status), ("301 lines for 300 requests", 1));
     let (_, status) = compared(&[], &[]);
     assert_eq!(status, 1);
@@ -75,7 +75,7 @@ fn a_line_missing_or_too_many_fails() {
 fn a_request_that_differs_is_saved() {
     let folder = std::env::temp_dir().join(format!("differ-{}", std::process::id()));
     let mut lines = answers();
-    lines[3] = "13 0 0".into();
+    lines[3] = "13 0 0 0".into();
     let (said, status) = compared(&lines, &[folder.to_str().unwrap()]);
     assert_eq!(status, 1);
     let name = said[0].split(':').next().unwrap();

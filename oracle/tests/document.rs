@@ -6,7 +6,8 @@ use oracle::{gate_by, Way};
 fn check(texts: &[Text]) {
     for text in texts {
         for way in [Way::Kept, Way::Afresh] {
-            assert_eq!(Some(gate_by(way, &text.bytes)), text.want, "{} {way:?}", text.name);
+            let (want, got) = (text.want.expect("an answer"), gate_by(way, &text.bytes));
+            assert!(want.is_met_by(got), "{} {way:?}: wanted {want:?}, got {got:?}", text.name);
         }
     }
 }

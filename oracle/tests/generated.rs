@@ -6,7 +6,8 @@ use std::collections::{BTreeMap, BTreeSet, HashSet};
 
 fn check_wanted(text: &Text) {
     if let Some(want) = text.want {
-        assert_eq!(gate(&text.bytes), want, "{}", text.name);
+        let got = gate(&text.bytes);
+        assert!(want.is_met_by(got), "{}: wanted {want:?}, got {got:?}", text.name);
     }
 }
 
@@ -69,7 +70,7 @@ fn the_same_seed_gives_the_same_files() {
 fn heavy_requests_are_answered_as_they_were_meant() {
     for text in heavy::heavy() {
         check_wanted(&text);
-        assert_eq!(Some(gate_by(Way::Afresh, &text.bytes)), text.want, "{}", text.name);
+        assert_eq!(gate_by(Way::Afresh, &text.bytes), gate(&text.bytes), "{}", text.name);
     }
     heavy::small(1, 500).for_each(|text| check_wanted(&text));
 }

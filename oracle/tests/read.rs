@@ -69,7 +69,10 @@ fn every_loan_comes_back_as_promised() {
         let answer = read(&file, forms, clauses, steps);
         assert_eq!(short, answer.refusal == refusal::TABLE_TOO_SHORT, "{name}");
         if answer.refusal != refusal::NONE {
-            assert_eq!(answer, refused(answer.refusal, answer.place), "{name}");
+            let column = answer.column;
+            assert_eq!(answer, ReadAnswer { column, ..refused(answer.refusal, answer.place) }, "{name}");
+            assert_eq!(column > 0, answer.refusal == refusal::OUT_OF_SHAPE, "{name}");
+            assert!(column <= 22, "{name}");
             assert!(is_zero(&tables), "{name}");
             continue;
         }

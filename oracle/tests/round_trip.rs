@@ -40,7 +40,7 @@ fn tables_that_are_written_read_back() {
         assert_eq!(Counts::from(&answer), call.counts, "{}", call.name);
         assert_eq!((&forms, &clauses, &steps), (&call.forms, &call.clauses, &call.steps), "{}", call.name);
         let judged = judge(&call.counts, &call.tables());
-        let want = GateAnswer { answer: judged.refusal, place: judged.place, steps: call.counts.steps };
+        let want = GateAnswer { answer: judged.refusal, place: judged.place, steps: call.counts.steps, column: 0 };
         assert_eq!(gate(text), want, "{}", call.name);
     }
     assert!(written_well > 1_000, "{written_well}");

@@ -31,7 +31,8 @@ fn judged() -> io::Result<ExitCode> {
     let printed = gate(&file);
     let agrees = agreement(&file, printed);
     let mut out = io::stdout().lock();
-    writeln!(out, "answer={}\nplace={}\nsteps={}", printed.answer, printed.place, printed.steps)?;
+    writeln!(out, "answer={}\nplace={}", printed.answer, printed.place)?;
+    writeln!(out, "steps={}\ncolumn={}", printed.steps, printed.column)?;
     writeln!(out, "{}", agrees.unwrap_or("DIFFERENT"))?;
     out.flush()?;
     Ok(match (agrees, printed.answer) {
@@ -43,14 +44,14 @@ fn judged() -> io::Result<ExitCode> {
 
 /// What reading, judging and writing come to by one call each, where that is what the gate answered.
 fn agreement(file: &[u8], printed: Printed) -> Option<&'static str> {
-    let same = |refusal: Refusal| (refusal.number(), refusal.place) == (printed.answer, printed.place);
+    let given = (printed.answer, printed.place, printed.column);
+    let same = |refusal: Refusal| (refusal.number(), refusal.place, refusal.column) == given;
     let (mut forms, mut policy, mut steps) = ([0; FORMS_ROOM], [0; POLICY_ROOM], [0; STEPS_ROOM]);
     let counts = match read(file, &mut forms, &mut policy, &mut steps) {
         Ok(counts) => counts,
         Err(refusal) => return same(refusal).then_some("not read"),
     };
-    let alike =
-        judge(counts, &forms, &policy, &steps).map_or_else(same, |()| (printed.answer, printed.place) == (0, 0));
+    let alike = judge(counts, &forms, &policy, &steps).map_or_else(same, |()| given == (0, 0, 0));
     let mut text = vec![0; MOST_BYTES];
     let length = write(counts, &forms, &policy, &steps, &mut text).ok()?;
     (alike && text[..length] == *file).then_some("written back the same")

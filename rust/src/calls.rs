@@ -12,19 +12,22 @@ pub struct Counts {
     pub steps: u16,
 }
 
-/// What the gate program prints: the answer, its place, and the steps read, 0 if reading is refused.
+/// What the gate program prints: the answer, its place, the steps read, 0 if reading is refused, and the column of
+/// [`Reason::OutOfShape`](crate::Reason), 0 with every other answer.
 #[repr(C)]
 #[derive(Clone, Copy, Debug, PartialEq, Eq)]
 pub struct Printed {
     pub answer: u16,
     pub place: u32,
     pub steps: u16,
+    pub column: u16,
 }
 
 #[repr(C)]
 pub struct Reading {
     pub refusal: u16,
     pub place: u32,
+    pub column: u16,
     pub counts: Counts,
 }
 
@@ -39,6 +42,7 @@ pub struct Writing {
 pub struct Answer {
     pub refusal: u16,
     pub place: u32,
+    pub column: u16,
 }
 
 extern "C" {

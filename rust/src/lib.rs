@@ -7,8 +7,8 @@
 //! those of `std::thread` have by default; on a smaller stack it ends the program with a fault.
 //!
 //! ```
-//! let printed = peraduksi::gate(b"version=1\n");
-//! assert_eq!((printed.answer, printed.place, printed.steps), (2, 2, 0));
+//! let printed = peraduksi::gate(b"version=1\nprinciples=2\n");
+//! assert_eq!((printed.answer, printed.place, printed.steps, printed.column), (2, 2, 0, 8));
 //! ```
 
 mod calls;
@@ -33,7 +33,7 @@ pub const STACK: usize = 96 * 1_024;
 /// Reads a request file. Entries past the last one read are 0; after a refusal every table is all 0.
 pub fn read(text: &[u8], forms: &mut [u16], policy: &mut [u16], steps: &mut [u16]) -> Result<Counts, Refusal> {
     let got = calls::read(text, forms, policy, steps);
-    answered(got.refusal, got.place, got.counts)
+    answered(got.refusal, got.place, got.column, got.counts)
 }
 
 /// Writes the request in the tables as text, and answers its length. Bytes past it are 0; after a refusal the whole output
@@ -43,16 +43,16 @@ pub fn read(text: &[u8], forms: &mut [u16], policy: &mut [u16], steps: &mut [u16
 /// the line that the text would have; and 0 in every entry past the counts, or it is refusal 3 at place 0.
 pub fn write(counts: Counts, forms: &[u16], policy: &[u16], steps: &[u16], out: &mut [u8]) -> Result<usize, Refusal> {
     let written = calls::write(counts, forms, policy, steps, out);
-    answered(written.refusal, written.place, written.length)
+    answered(written.refusal, written.place, 0, written.length)
 }
 
 /// Judges the request in the tables, of which it asks what [`write`] asks. `Ok` grants.
 pub fn judge(counts: Counts, forms: &[u16], policy: &[u16], steps: &[u16]) -> Result<(), Refusal> {
     let answer = calls::judge(counts, forms, policy, steps);
-    answered(answer.refusal, answer.place, ())
+    answered(answer.refusal, answer.place, answer.column, ())
 }
 
-/// Reads and judges a request file: the three numbers that the gate program prints.
+/// Reads and judges a request file: the four numbers that the gate program prints.
 pub fn gate(file: &[u8]) -> Printed {
     calls::gate(file)
 }

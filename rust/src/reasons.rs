@@ -50,6 +50,8 @@ const REASONS: [(Reason, &str); 15] = [
 pub struct Refusal {
     pub reason: Reason,
     pub place: u32,
+    /// Where a line is out of shape: the first byte, from 1, at which it can no longer be in shape; else 0.
+    pub column: u16,
 }
 
 impl Refusal {
@@ -62,20 +64,24 @@ impl Refusal {
 impl fmt::Display for Refusal {
     fn fmt(&self, f: &mut fmt::Formatter) -> fmt::Result {
         let (_, says) = REASONS[usize::from(self.number()) - 1];
-        write!(f, "refused with {} at {}: {says}", self.number(), self.place)
+        write!(f, "refused with {} at {}", self.number(), self.place)?;
+        if self.column > 0 {
+            write!(f, ", column {}", self.column)?;
+        }
+        write!(f, ": {says}")
     }
 }
 
 impl Error for Refusal {}
 
 /// What a call gives where nothing is refused, or its refusal.
-pub fn answered<T>(number: u16, place: u32, value: T) -> Result<T, Refusal> {
+pub fn answered<T>(number: u16, place: u32, column: u16, value: T) -> Result<T, Refusal> {
     if number == 0 {
         return Ok(value);
     }
     // The library is proved to answer no number but these.
     let (reason, _) = REASONS[usize::from(number) - 1];
-    Err(Refusal { reason, place })
+    Err(Refusal { reason, place, column })
 }
 
 #[cfg(test)]
@@ -85,10 +91,10 @@ mod tests {
     #[test]
     fn each_number_has_its_own_reason() {
         for number in 1..=15 {
-            let refusal: Refusal = answered(number, 5, ()).unwrap_err();
-            assert_eq!((refusal.number(), refusal.place), (number, 5));
+            let refusal: Refusal = answered(number, 5, 3, ()).unwrap_err();
+            assert_eq!((refusal.number(), refusal.place, refusal.column), (number, 5, 3));
         }
-        assert_eq!(answered(0, 0, 7), Ok(7));
+        assert_eq!(answered(0, 0, 0, 7), Ok(7));
         assert_eq!(REASONS.len(), 15);
     }
 }

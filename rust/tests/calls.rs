@@ -38,7 +38,7 @@ fn a_refused_step_has_its_place() {
     let mut t = lent();
     let counts = read_into(&mut t, REFUSED).expect("it reads");
     let refusal = judge(counts, &t.forms, &t.policy, &t.steps).unwrap_err();
-    assert_eq!(refusal, Refusal { reason: Reason::FactAbsent, place: 6 });
+    assert_eq!(refusal, Refusal { reason: Reason::FactAbsent, place: 6, column: 0 });
     assert_eq!(refusal.to_string(), "refused with 9 at 6: needed fact absent, or another atom");
 }
 
@@ -46,8 +46,16 @@ fn a_refused_step_has_its_place() {
 fn a_refused_reading_leaves_zeros() {
     let mut t = lent();
     let cut = &GRANTED[..GRANTED.len() - 1];
-    assert_eq!(read_into(&mut t, cut), Err(Refusal { reason: Reason::OutOfShape, place: 22 }));
+    assert_eq!(read_into(&mut t, cut), Err(Refusal { reason: Reason::OutOfShape, place: 22, column: 9 }));
     assert!([&t.forms, &t.policy, &t.steps].iter().all(|table| table.iter().all(|&entry| entry == 0)));
+}
+
+#[test]
+fn a_line_out_of_shape_has_its_column() {
+    let file = b"version=1\nprincipals=2\natoms=01\n";
+    let refusal = read_into(&mut lent(), file).unwrap_err();
+    assert_eq!(refusal, Refusal { reason: Reason::OutOfShape, place: 3, column: 8 });
+    assert_eq!(refusal.to_string(), "refused with 2 at 3, column 8: line missing, out of shape, or without LF");
 }
 
 #[test]
@@ -56,10 +64,10 @@ fn short_tables_and_short_outputs() {
     let counts = read_into(&mut t, GRANTED).expect("it reads");
     let mut out = vec![7; GRANTED.len() - 1];
     let short = write(counts, &t.forms, &t.policy, &t.steps, &mut out);
-    assert_eq!(short, Err(Refusal { reason: Reason::OutputTooShort, place: 0 }));
+    assert_eq!(short, Err(Refusal { reason: Reason::OutputTooShort, place: 0, column: 0 }));
     assert!(out.iter().all(|&byte| byte == 0));
     let none = judge(counts, &[], &t.policy, &t.steps);
-    assert_eq!(none, Err(Refusal { reason: Reason::TableTooShort, place: 0 }));
+    assert_eq!(none, Err(Refusal { reason: Reason::TableTooShort, place: 0, column: 0 }));
 }
 
 /// What a thread of `std` itself has on its stack beside the call.

@@ -6,3 +6,4 @@ pub record Same (wanted got : Outcome) : Type 0 where
   pub answer : wanted .answer ≡ got .answer
   pub place : wanted .place ≡ got .place
   pub steps : wanted .steps ≡ got .steps
+  pub column : wanted .column ≡ got .column

@@ -1,5 +1,5 @@
-// The lines of the index: the name of a request file, and the answer, place and steps that judging
-// it should give, parted by one space.
+// The lines of the index: the name of a request file, and the answer, place, steps and column that
+// judging it should give, parted by one space.
 use crate::outcome::Outcome;
 ghost use Prim.Native.Nat.{_≤_};
 ghost use lib.ListN.{length};
@@ -26,14 +26,20 @@ pub(crate) fn line_of(line: &[u8]) -> Line {
     let Number::Is(place) = parsed else {
         return Line::Malformed;
     };
-    let parsed = number_of(after_space(numbers));
+    let numbers = after_space(numbers);
+    let parsed = number_of(to_space(numbers));
     let Number::Is(steps) = parsed else {
+        return Line::Malformed;
+    };
+    let parsed = number_of(after_space(numbers));
+    let Number::Is(column) = parsed else {
         return Line::Malformed;
     };
     Line::Wants(Outcome {
         answer: answer,
         place: place,
         steps: steps,
+        column: column,
     })
 }
 
@@ -69,7 +75,7 @@ pub(crate) fn find_from(text: &[u8], from: usize, byte: u8) -> usize
     at
 }
 
-// A number of at most five digits, which is more than any answer, place or count of steps has.
+// A number of at most five digits, which is more than any answer, place, count of steps or column has.
 fn number_of(word: &[u8]) -> Number {
     if word.len() == 0 {
         return Number::Malformed;

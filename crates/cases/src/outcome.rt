@@ -7,6 +7,7 @@ pub(crate) struct Outcome {
     pub(crate) answer: u64,
     pub(crate) place: u64,
     pub(crate) steps: u64,
+    pub(crate) column: u64,
 }
 
 pub(crate) fn judged(file: &[u8]) -> Outcome {
@@ -14,14 +15,16 @@ pub(crate) fn judged(file: &[u8]) -> Outcome {
     let answer = wide16(printed.answer);
     let place = wide32(printed.place);
     let steps = wide16(printed.steps);
+    let column = wide16(printed.column);
     Outcome {
         answer: answer,
         place: place,
         steps: steps,
+        column: column,
     }
 }
 
-// No difference is passed over: what is called the same is the same in all three numbers.
+// No difference is passed over: what is called the same is the same in all four numbers.
 pub(crate) fn same(wanted: Outcome, got: Outcome) -> bool
     ensures { λ r. ⌜ (r ≡ true → Same wanted got) ⌝ }
 {
@@ -31,7 +34,10 @@ pub(crate) fn same(wanted: Outcome, got: Outcome) -> bool
     if wanted.place != got.place {
         return false;
     }
-    wanted.steps == got.steps
+    if wanted.steps != got.steps {
+        return false;
+    }
+    wanted.column == got.column
 }
 
 fn wide16(number: u16) -> u64

@@ -17,6 +17,8 @@ fn numbers(outcome: Outcome) {
     io::print_decimal(STDOUT_FILENO, outcome.place);
     io::write_all(STDOUT_FILENO, b" ");
     io::print_decimal(STDOUT_FILENO, outcome.steps);
+    io::write_all(STDOUT_FILENO, b" ");
+    io::print_decimal(STDOUT_FILENO, outcome.column);
 }
 
 // A case that could not be compared counts as one that differs, and this says why.

@@ -1,7 +1,7 @@
 -- The answer of a check as the code gives it: `Fine`, which is document 01's number 0, or a refusal with its number and place.
 use Prim.Native.Nat.{ℕ, zero, suc}
 use mathlib.Core.List.{List}
-use Rattle.scope.specs.Call.Answer.{Answer, answer}
+use Rattle.scope.specs.Call.Answer.{Answer, told, answer}
 use Rattle.scope.specs.Call.Checked.{firstMet}
 use Rattle.scope.specs.Call.Tables.{Lent}
 use Rattle.common.specs.declared.Counts.{Counts}
@@ -16,8 +16,8 @@ answerIn (Refused r) = answerIs r
 
 -- The case for a number and a place: 0 is no refusal.
 unfoldable pub checkedOf : Answer → Checked
-checkedOf (answer zero place) = Fine
-checkedOf (answer (suc k) place) = Refused (answerOf (answer (suc k) place))
+checkedOf (told zero place column) = Fine
+checkedOf (told (suc k) place column) = Refused (answerOf (told (suc k) place column))
 
 -- 'The first met is the answer, with no other given.'
 unfoldable pub metIn : List Answer → Checked

@@ -7,7 +7,7 @@ use mathlib.Core.List.{List, [], _∷_, _++_}
 use lib.ListN.{length, getD, take, drop}
 use lib.Seq.{take-suc, split-at, take-length}
 use Rattle.scope.specs.Tools.Tests.{never}
-use Rattle.scope.specs.Call.Answer.{Answer, answer}
+use Rattle.scope.specs.Call.Answer.{Answer, told, answer}
 use Rattle.scope.specs.Call.Checked.{firstMet}
 use Rattle.common.specs.Answers.{answerOf}
 use Rattle.common.specs.declared.Answer.{Answer as Returned}
@@ -23,14 +23,14 @@ refused-at (suc k) place h = refl
 pub met-fine : (a b : List Answer) → metIn a ≡ Fine → metIn (a ++ b) ≡ metIn b
 unfolding metIn firstMet checkedOf
 met-fine [] b e = refl
-met-fine (answer zero p ∷ a) b e = met-fine a b e
-met-fine (answer (suc k) p ∷ a) b e = never cc
+met-fine (told zero p c ∷ a) b e = met-fine a b e
+met-fine (told (suc k) p c ∷ a) b e = never cc
 
 pub met-refused : (a b : List Answer) (r : Returned) → metIn a ≡ Refused r → metIn (a ++ b) ≡ Refused r
 unfolding metIn firstMet checkedOf
 met-refused [] b r e = never cc
-met-refused (answer zero p ∷ a) b r e = met-refused a b r e
-met-refused (answer (suc k) p ∷ a) b r e = e
+met-refused (told zero p c ∷ a) b r e = met-refused a b r e
+met-refused (told (suc k) p c ∷ a) b r e = e
 
 -- What a check of a gave is the answer to all, where it is a refusal; else what comes after it decides.
 pub met-stop : (a b : List Answer) (g : Checked) (r : Returned) → g ≡ metIn a → g ≡ Refused r → g ≡ metIn (a ++ b)
@@ -41,14 +41,14 @@ met-go a b g e f = sym (met-fine a b (sym e ∙ f))
 
 pub met-one : (a : Answer) → metIn (a ∷ []) ≡ checkedOf a
 unfolding metIn firstMet checkedOf
-met-one (answer zero p) = refl
-met-one (answer (suc k) p) = refl
+met-one (told zero p c) = refl
+met-one (told (suc k) p c) = refl
 
 pub met-front : (a b : List Answer) → metIn (a ++ b) ≡ Fine → metIn a ≡ Fine
 unfolding metIn firstMet checkedOf
 met-front [] b e = refl
-met-front (answer zero p ∷ a) b e = met-front a b e
-met-front (answer (suc k) p ∷ a) b e = e
+met-front (told zero p c ∷ a) b e = met-front a b e
+met-front (told (suc k) p c ∷ a) b e = e
 
 pub met-back : (a b : List Answer) → metIn (a ++ b) ≡ Fine → metIn b ≡ Fine
 met-back a b e = sym (met-fine a b (met-front a b e)) ∙ e
@@ -68,8 +68,8 @@ one-go x b g e f = met-go (x ∷ []) b g (e ∙ sym (met-one x)) f
 pub first-answer : (a : List Answer) → answerIn (metIn a) ≡ firstMet a
 unfolding metIn firstMet checkedOf answerIn
 first-answer [] = refl
-first-answer (answer zero p ∷ a) = first-answer a
-first-answer (answer (suc k) p ∷ a) = refl
+first-answer (told zero p c ∷ a) = first-answer a
+first-answer (told (suc k) p c ∷ a) = refl
 
 abbrev pub answerAt : List Answer → ℕ → Answer
 answerAt a i = getD a i (answer 0 0)

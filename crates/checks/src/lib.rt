@@ -36,6 +36,7 @@ fn answer_at(number: u16, place: u32) -> Checked
     Checked::Refused(Answer {
         refusal: number,
         place,
+        column: 0,
     })
 }
 

@@ -39,11 +39,13 @@ pub struct Counts {
     pub steps: u16,
 }
 
-// What comes back: a refusal number of document 01, 0 where there is none, and its place. Laid out for programs in other languages too.
+// What comes back: a refusal number of document 01, 0 where there is none, its place, and for 2 the column. Laid out for programs in other
+// languages too.
 #[repr(C)]
 pub struct Answer {
     pub refusal: u16,
     pub place: u32,
+    pub column: u16,
 }
 
 // The lines of the file, counted from 1. All that follow `version=` are told from the line of `principals=`.

@@ -4,7 +4,7 @@ use Prim.Native.Nat.{ℕ, zero, suc, _<_}
 use mathlib.Core.Path.{_≡_, refl, sym, _∙_}
 use mathlib.Core.Logic.{_↔_}
 use native.Mathlib.Omega.{arith}
-use Rattle.scope.specs.Call.Answer.{Answer, answer}
+use Rattle.scope.specs.Call.Answer.{Answer, told, answer}
 use Rattle.scope.specs.File.Request.{Request}
 use Rattle.scope.specs.Call.Tables.{Lent, requestOf}
 use Rattle.scope.specs.Call.Checked.{checked}
@@ -20,6 +20,7 @@ use Rattle.scope.specs.Tools.Tests.{never}
 use Rattle.trip.specs.File.{Unrefused}
 use Rattle.trip.specs.Trip.{checked-fine, unmet}
 use Rattle.demands.specs.InRange.{rows-in}
+use Rattle.demands.specs.Ranges.{checked-range}
 
 -- Every answer about the steps of a request is settled by the rules.
 pub steps-settled : (q : Request) (a : Answer) → stepsAnswer q ≡ a ↔ Settled within (startOf q) (stepsOf q) a
@@ -27,10 +28,10 @@ unfolding stepsAnswer
 steps-settled q a = settled within (startOf q) (stepsOf q) a
 
 -- Settled with number 0 is derived: no break has it.
-pub zero-granted : (q : Request) (a : Answer) (r : ℕ) → Settled within (startOf q) (stepsOf q) a → a ≡ answer 0 r →
+pub zero-granted : (q : Request) (a : Answer) (r c : ℕ) → Settled within (startOf q) (stepsOf q) a → a ≡ told 0 r c →
     Derivation within (startOf q) (stepsOf q)
-zero-granted q a r (grants d) e = d
-zero-granted q a r (breaks {k = k} b) e =
+zero-granted q a r c (grants d) e = d
+zero-granted q a r c (breaks {k = k} b) e =
     let z : k ≡ 0 = cc in
     let h = break-range b in
     absurd (omega arith)
@@ -52,28 +53,30 @@ pub judge-law : (t : Lent) → judge t ≡ else (checked t) (stepsAnswer (reques
 unfolding judge
 judge-law t = refl
 
-pub else-refused : (k place : ℕ) (b : Answer) → else (answer (suc k) place) b ≡ answer (suc k) place
+pub else-refused : (k place column : ℕ) (b : Answer) → else (told (suc k) place column) b ≡ told (suc k) place column
 unfolding else
-else-refused k place b = refl
+else-refused k place column b = refl
 
-pub else-passes : (place : ℕ) (b : Answer) → else (answer 0 place) b ≡ b
+pub else-passes : (place column : ℕ) (b : Answer) → else (told 0 place column) b ≡ b
 unfolding else
-else-passes place b = refl
+else-passes place column b = refl
 
 -- The judge's answer is allowed, and no other is.
 pub judge-allowed : (t : Lent) → Answers t (judge t)
 judge-allowed t = go (checked t) refl
   where
     go : (c : Answer) → checked t ≡ c → Answers t (judge t)
-    go (answer zero place) e =
-        rw (judge-law t, e, else-passes place (stepsAnswer (requestOf t)))
-        (by-steps (unmet t place e) (steps-settled (requestOf t) (stepsAnswer (requestOf t)) .0 refl))
-    go (answer (suc k) place) e = rw (judge-law t, e, else-refused k place (stepsAnswer (requestOf t))) (by-tables e)
+    go (told zero place column) e =
+        rw (judge-law t, e, else-passes place column (stepsAnswer (requestOf t)))
+        (by-steps (unmet t place column e) (steps-settled (requestOf t) (stepsAnswer (requestOf t)) .0 refl))
+    go (told (suc k) place column) e =
+        let z = checked-range t k place column e .1 in
+        rw (judge-law t, e, else-refused k place column (stepsAnswer (requestOf t)), z) (by-tables (rw z at e))
 
 pub allowed-judge : (t : Lent) (a : Answer) → Answers t a → judge t ≡ a
-allowed-judge t (answer (suc k) place) (by-tables e) = rw (judge-law t, e) (else-refused k place (stepsAnswer (requestOf t)))
+allowed-judge t a (by-tables {k} {place} e) = rw (judge-law t, e) (else-refused k place 0 (stepsAnswer (requestOf t)))
 allowed-judge t a (by-steps e s) =
-    rw (judge-law t, e) (else-passes 0 (stepsAnswer (requestOf t)) ∙ steps-settled (requestOf t) a .1 s)
+    rw (judge-law t, e) (else-passes 0 0 (stepsAnswer (requestOf t)) ∙ steps-settled (requestOf t) a .1 s)
 
 -- So any two answers allowed are equal.
 pub one-judgement : (t : Lent) (a b : Answer) → Answers t a → Answers t b → a ≡ b
@@ -85,13 +88,13 @@ pub record Grants (t : Lent) : Type 0 where
   pub derives : Derivation within (startOf (requestOf t)) (stepsOf (requestOf t))
 
 -- An answer with number 0 is allowed only there.
-pub allowed-grants : (t : Lent) (a : Answer) (r : ℕ) → a ≡ answer 0 r → Answers t a → Grants t
-allowed-grants t (answer (suc k) place) r e (by-tables c) = never cc
-allowed-grants t a r e (by-steps c s) = record { fine = c; derives = zero-granted (requestOf t) a r s e }
+pub allowed-grants : (t : Lent) (a : Answer) (r c : ℕ) → a ≡ told 0 r c → Answers t a → Grants t
+allowed-grants t a r c e (by-tables d) = never cc
+allowed-grants t a r c e (by-steps d s) = record { fine = d; derives = zero-granted (requestOf t) a r c s e }
 
 -- Demand 2: granted exactly then.
 pub judge-grants : (t : Lent) → judge t ≡ answer 0 0 ↔ Grants t
-judge-grants t = (λ e. allowed-grants t (judge t) 0 e (judge-allowed t), back)
+judge-grants t = (λ e. allowed-grants t (judge t) 0 0 e (judge-allowed t), back)
   where
     back : Grants t → judge t ≡ answer 0 0
     back g = allowed-judge t (answer 0 0) (by-steps (g .fine) (grants (g .derives)))

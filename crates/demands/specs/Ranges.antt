@@ -1,7 +1,7 @@
--- The numbers and places of refusals before the steps, as document 01's table 'What comes back' has them.
---     reading-range : reading forms lines steps s ≡ refused (answer k place) → ByReading s k place
---     checked-range : checked t ≡ answer (suc k) place → ByChecks (suc k) place
---     writing-range : writing t len ≡ unwritten (answer k place) → ByWriting k place
+-- The numbers, places and columns of refusals before the steps, as document 01's table 'What comes back' has them.
+--     reading-range : reading forms lines steps s ≡ refused (told k place column) → ByReading s k place column
+--     checked-range : checked t ≡ told (suc k) place column → ByChecks (suc k) place × (column ≡ 0)
+--     writing-range : writing t len ≡ unwritten (told k place column) → ByWriting k place × (column ≡ 0)
 -- So reading refuses 1 to 6, 13 or 15 (`read-number`), and no refusal has number 0 (`reading-firm`).
 use Prim.Native.Nat.{ℕ, zero, suc, _<_, _≤_}
 use mathlib.Core.Path.{_≡_, refl}
@@ -16,7 +16,7 @@ use Rattle.scope.specs.File.Refusals.{demand, formRefusal, clauseRefusal, stepR
 use Rattle.scope.specs.File.Reader.{refused, readRequest}
 use Rattle.scope.specs.File.Text.{requestText}
 use Rattle.scope.specs.Limits.{mostBytes, mostPrincipals, mostAtoms, mostFormulas, mostPolicyLines, mostSteps, formAt, clauseAt, stepAt}
-use Rattle.scope.specs.Call.Answer.{Answer, answer}
+use Rattle.scope.specs.Call.Answer.{Answer, told, answer}
 use Rattle.scope.specs.Call.Tables.{Lent, hasRoom, requestOf}
 use Rattle.scope.specs.Call.Checked.{firstMet, eachOf, lineAnswers, pastZero, checked}
 use Rattle.scope.specs.Call.Calls.{reading, written, unwritten, writtenIf, writing}
@@ -24,11 +24,11 @@ use Rattle.scope.specs.Tools.Tests.{never}
 use Rattle.trip.specs.LineRefusals.{InShape, range, later, twice, class, OfLine, shape, in-shape, Mild, count-mild, form-mild, clause-mild, goal-mild, step-mild}
 use Rattle.trip.specs.Places.{Where, of-line, of-rest, refused-where}
 
--- Of reading: 13 and 1 at place 0; 2 to 5 and 15 at the line that met it, and 6 at the line behind the last (`Where`).
-pub data ByReading (s : List ℕ) (k place : ℕ) : Type 0 where
-  no-room : k ≡ 13 → place ≡ 0 → ByReading s k place
-  too-long : k ≡ 1 → place ≡ 0 → ByReading s k place
-  at-line : Where s k place → ByReading s k place
+-- Of reading: 13 and 1 at place 0; 2 to 5 and 15 at the line that met it, and 6 at the line behind the last (`Where`). Only 2 has a column.
+pub data ByReading (s : List ℕ) (k place column : ℕ) : Type 0 where
+  no-room : k ≡ 13 → place ≡ 0 → column ≡ 0 → ByReading s k place column
+  too-long : k ≡ 1 → place ≡ 0 → column ≡ 0 → ByReading s k place column
+  at-line : Where s k place column → ByReading s k place column
 
 -- Of lent tables: 13 at place 0; 3, 4, 15 or 5 at a line; 3 at place 0.
 pub data ByChecks (k place : ℕ) : Type 0 where
@@ -42,14 +42,16 @@ pub data ByWriting (k place : ℕ) : Type 0 where
   no-output : k ≡ 14 → place ≡ 0 → ByWriting k place
 
 -- Reading.
-pub reading-range : (forms lines steps : ℕ) (s : List ℕ) (k place : ℕ) → reading forms lines steps s ≡ refused (answer k place) → ByReading s k place
+pub reading-range : (forms lines steps : ℕ) (s : List ℕ) (k place column : ℕ) → reading forms lines steps s ≡ refused (told k place column) →
+    ByReading s k place column
 unfolding reading
-reading-range f l n s k place e = go (hasRoom f l n) (leb (length s) mostBytes) e
+reading-range f l n s k place column e = go (hasRoom f l n) (leb (length s) mostBytes) e
   where
-    go : (a b : Bool) → cond a (cond b (readRequest s) (refused (answer 1 0))) (refused (answer 13 0)) ≡ refused (answer k place) → ByReading s k place
-    go true true d = at-line (refused-where s k place d)
-    go true false d = too-long (cc) (cc)
-    go false b d = no-room (cc) (cc)
+    go : (a b : Bool) → cond a (cond b (readRequest s) (refused (answer 1 0))) (refused (answer 13 0)) ≡ refused (told k place column) →
+        ByReading s k place column
+    go true true d = at-line (refused-where s k place column d)
+    go true false d = too-long (cc) (cc) (cc)
+    go false b d = no-room (cc) (cc) (cc)
 
 -- A number of document 01's table between two others, or 15.
 abbrev pub Between : ℕ → ℕ → ℕ → Type 0
@@ -65,22 +67,22 @@ pub between-wider : {least most less more k : ℕ} → less ≤ least → most �
 between-wider a b (inl h) = inl (omega arith)
 between-wider a b (inr e) = inr e
 
-of-line-number : {k : ℕ} → OfLine k → Between 2 5 k
-of-line-number (shape e) = inl (omega arith)
-of-line-number (in-shape e) = between-wider (omega arith) (omega arith) (in-shape-number e)
+of-line-number : {k c : ℕ} → OfLine k c → Between 2 5 k
+of-line-number (shape e h) = inl (omega arith)
+of-line-number (in-shape e h) = between-wider (omega arith) (omega arith) (in-shape-number e)
 
-pub where-number : {s : List ℕ} {k i : ℕ} → Where s k i → Between 2 6 k × (0 < i)
+pub where-number : {s : List ℕ} {k i c : ℕ} → Where s k i c → Between 2 6 k × (0 < i)
 where-number (of-line b n d w) = (between-wider (omega arith) (omega arith) (of-line-number n), omega (arith, b .place))
-where-number (of-rest b q e d) = (inl (omega arith), omega (arith, b .place))
+where-number (of-rest b q e z d) = (inl (omega arith), omega (arith, b .place))
 
-read-by : {s : List ℕ} {k place : ℕ} → ByReading s k place → Between 1 6 k ⊎ (k ≡ 13)
-read-by (no-room e p) = inr e
-read-by (too-long e p) = inl (inl (omega arith))
+read-by : {s : List ℕ} {k place column : ℕ} → ByReading s k place column → Between 1 6 k ⊎ (k ≡ 13)
+read-by (no-room e p c) = inr e
+read-by (too-long e p c) = inl (inl (omega arith))
 read-by (at-line w) = inl (between-wider (omega arith) (omega arith) (where-number w .0))
 
-pub read-number : (forms lines steps : ℕ) (s : List ℕ) (k place : ℕ) → reading forms lines steps s ≡ refused (answer k place) →
+pub read-number : (forms lines steps : ℕ) (s : List ℕ) (k place column : ℕ) → reading forms lines steps s ≡ refused (told k place column) →
     Between 1 6 k ⊎ (k ≡ 13)
-read-number f l n s k place e = read-by (reading-range f l n s k place e)
+read-number f l n s k place column e = read-by (reading-range f l n s k place column e)
 
 some-number : {least most k : ℕ} → 0 < least → Between least most k → 0 < k
 some-number h (inl b) = omega arith
@@ -90,77 +92,77 @@ not-thirteen : {least most k : ℕ} → most < 13 → Between least most k → k
 not-thirteen h (inl b) t = omega arith
 not-thirteen h (inr e) t = omega arith
 
-firm : {s : List ℕ} {k place : ℕ} → ByReading s k place → 0 < k
-firm (no-room e p) = omega arith
-firm (too-long e p) = omega arith
+firm : {s : List ℕ} {k place column : ℕ} → ByReading s k place column → 0 < k
+firm (no-room e p c) = omega arith
+firm (too-long e p c) = omega arith
 firm (at-line w) = some-number (omega arith) (where-number w .0)
 
 -- A file that reads to nothing is never taken for granted.
-pub reading-firm : (forms lines steps : ℕ) (s : List ℕ) (k place : ℕ) → reading forms lines steps s ≡ refused (answer k place) → 0 < k
-reading-firm f l n s k place e = firm (reading-range f l n s k place e)
+pub reading-firm : (forms lines steps : ℕ) (s : List ℕ) (k place column : ℕ) → reading forms lines steps s ≡ refused (told k place column) → 0 < k
+reading-firm f l n s k place column e = firm (reading-range f l n s k place column e)
 
 -- Tables with room are never found too short.
-pub with-room : (forms lines steps : ℕ) (s : List ℕ) (k place : ℕ) → hasRoom forms lines steps ≡ true →
-    reading forms lines steps s ≡ refused (answer k place) → k ≡ 13 → ⊥
+pub with-room : (forms lines steps : ℕ) (s : List ℕ) (k place column : ℕ) → hasRoom forms lines steps ≡ true →
+    reading forms lines steps s ≡ refused (told k place column) → k ≡ 13 → ⊥
 unfolding reading
-with-room f l n s k place h e t = go (leb (length s) mostBytes) (rw h at e)
+with-room f l n s k place column h e t = go (leb (length s) mostBytes) (rw h at e)
   where
-    go : (b : Bool) → cond b (readRequest s) (refused (answer 1 0)) ≡ refused (answer k place) → ⊥
-    go true d = not-thirteen (omega arith) (where-number (refused-where s k place d) .0) t
+    go : (b : Bool) → cond b (readRequest s) (refused (answer 1 0)) ≡ refused (told k place column) → ⊥
+    go true d = not-thirteen (omega arith) (where-number (refused-where s k place column d) .0) t
     go false d = let z : 1 ≡ k = cc in omega arith
 
 -- The checks: the first refusal met in a list of answers is in its range, put together from the lists of a request's lines.
-record Told (list : List Answer) : Type 0 where
-  told : (k place : ℕ) → firstMet list ≡ answer (suc k) place → ByChecks (suc k) place
+record Ranged (list : List Answer) : Type 0 where
+  ranged : (k place column : ℕ) → firstMet list ≡ told (suc k) place column → ByChecks (suc k) place × (column ≡ 0)
 
-told-none : Told []
+ranged-none : Ranged []
 unfolding firstMet
-told-none = record { told = λ k place e. never cc }
+ranged-none = record { ranged = λ k place column e. never cc }
 
-told-first : (n p : ℕ) (more : List Answer) → (0 < n → ByChecks n p) → Told more → Told (answer n p ∷ more)
+ranged-first : (n p : ℕ) (more : List Answer) → (0 < n → ByChecks n p) → Ranged more → Ranged (answer n p ∷ more)
 unfolding firstMet
-told-first zero p more h t = record { told = t .told }
-told-first (suc n) p more h t =
+ranged-first zero p more h t = record { ranged = t .ranged }
+ranged-first (suc n) p more h t =
     record {
-      told =
-          λ k place e.
+      ranged =
+          λ k place column e.
           let z : n ≡ k = cc in
           let y : p ≡ place = cc in
-          rw (z, y) at (h (omega arith));
+          (rw (z, y) at (h (omega arith)), cc);
     }
 
-told-line : (n p : ℕ) (more : List Answer) → Mild n → 0 < p → Told more → Told (answer n p ∷ more)
-told-line n p more m h t = told-first n p more (λ i. at-line (m i) h) t
+ranged-line : (n p : ℕ) (more : List Answer) → Mild n → 0 < p → Ranged more → Ranged (answer n p ∷ more)
+ranged-line n p more m h t = ranged-first n p more (λ i. at-line (m i) h) t
 
-told-all : (xs ys : List Answer) → Told xs → Told ys → Told (xs ++ ys)
+ranged-all : (xs ys : List Answer) → Ranged xs → Ranged ys → Ranged (xs ++ ys)
 unfolding firstMet
-told-all [] ys t u = u
-told-all (answer zero p ∷ xs) ys t u = record { told = told-all xs ys (record { told = t .told }) u .told }
-told-all (answer (suc n) p ∷ xs) ys t u = record { told = t .told }
+ranged-all [] ys t u = u
+ranged-all (told zero p c ∷ xs) ys t u = record { ranged = ranged-all xs ys (record { ranged = t .ranged }) u .ranged }
+ranged-all (told (suc n) p c ∷ xs) ys t u = record { ranged = t .ranged }
 
-told-each : {A : Type 0} (refusal : List A → A → ℕ) (place : List A → ℕ) → ((b : List A) (x : A) → Mild (refusal b x)) →
-    ((b : List A) → 0 < place b) → (before xs : List A) → Told (eachOf (λ b x. answer (refusal b x) (place b)) before xs)
+ranged-each : {A : Type 0} (refusal : List A → A → ℕ) (place : List A → ℕ) → ((b : List A) (x : A) → Mild (refusal b x)) →
+    ((b : List A) → 0 < place b) → (before xs : List A) → Ranged (eachOf (λ b x. answer (refusal b x) (place b)) before xs)
 unfolding eachOf
-told-each refusal place m h before [] = told-none
-told-each refusal place m h before (x ∷ xs) =
-    told-line (refusal before x) (place before) _ (m before x) (h before) (told-each refusal place m h (before ++ (x ∷ [])) xs)
+ranged-each refusal place m h before [] = ranged-none
+ranged-each refusal place m h before (x ∷ xs) =
+    ranged-line (refusal before x) (place before) _ (m before x) (h before) (ranged-each refusal place m h (before ++ (x ∷ [])) xs)
 
-told-lines : (q : Request) → Told (lineAnswers q)
+ranged-lines : (q : Request) → Ranged (lineAnswers q)
 unfolding lineAnswers
-told-lines q =
-    told-line _ _ _ (count-mild 1 mostPrincipals (q .principals)) (omega arith)
-    (told-line _ _ _ (count-mild 1 mostAtoms (q .atoms)) (omega arith)
-    (told-line _ _ _ (count-mild 1 mostFormulas (length (q .forms))) (omega arith)
-    (told-all _ _
-    (told-each (formRefusal (q .principals) (q .atoms)) (λ b. formAt (length b)) (form-mild (q .principals) (q .atoms)) (λ b. omega arith) [] (q .forms))
-    (told-line _ _ _ (count-mild 0 mostPolicyLines (length (q .policy))) (omega arith)
-    (told-all _ _
-    (told-each (λ b. clauseRefusal (q .forms)) (λ b. clauseAt (length (q .forms)) (length b)) (λ b. clause-mild (q .forms)) (λ b. omega arith) [] (q .policy))
-    (told-line _ _ _ (goal-mild (q .forms) (q .goal)) (omega arith)
-    (told-line _ _ _ (count-mild 1 mostSteps (length (q .steps))) (omega arith)
-    (told-all _ _
-    (told-each (λ b. stepRefusal) (λ b. stepAt (length (q .forms)) (length (q .policy)) (suc (length b))) (λ b. step-mild) (λ b. omega arith) [] (q .steps))
-    told-none))))))))
+ranged-lines q =
+    ranged-line _ _ _ (count-mild 1 mostPrincipals (q .principals)) (omega arith)
+    (ranged-line _ _ _ (count-mild 1 mostAtoms (q .atoms)) (omega arith)
+    (ranged-line _ _ _ (count-mild 1 mostFormulas (length (q .forms))) (omega arith)
+    (ranged-all _ _
+    (ranged-each (formRefusal (q .principals) (q .atoms)) (λ b. formAt (length b)) (form-mild (q .principals) (q .atoms)) (λ b. omega arith) [] (q .forms))
+    (ranged-line _ _ _ (count-mild 0 mostPolicyLines (length (q .policy))) (omega arith)
+    (ranged-all _ _
+    (ranged-each (λ b. clauseRefusal (q .forms)) (λ b. clauseAt (length (q .forms)) (length b)) (λ b. clause-mild (q .forms)) (λ b. omega arith) [] (q .policy))
+    (ranged-line _ _ _ (goal-mild (q .forms) (q .goal)) (omega arith)
+    (ranged-line _ _ _ (count-mild 1 mostSteps (length (q .steps))) (omega arith)
+    (ranged-all _ _
+    (ranged-each (λ b. stepRefusal) (λ b. stepAt (length (q .forms)) (length (q .policy)) (suc (length b))) (λ b. step-mild) (λ b. omega arith) [] (q .steps))
+    ranged-none))))))))
 
 room-asked : (t : Bool) → 0 < demand t 13 0 → ByChecks (demand t 13 0) 0
 unfolding demand
@@ -172,24 +174,28 @@ unfolding demand
 past-asked true h = absurd (omega arith)
 past-asked false h = past-counts refl refl
 
-pub checked-range : (t : Lent) (k place : ℕ) → checked t ≡ answer (suc k) place → ByChecks (suc k) place
+pub checked-range : (t : Lent) (k place column : ℕ) → checked t ≡ told (suc k) place column → ByChecks (suc k) place × (column ≡ 0)
 unfolding checked
-checked-range t k place e =
-    told-first _ _ _ (room-asked (hasRoom (length (t .formTable)) (length (t .policyTable)) (length (t .stepTable))))
-    (told-all _ _ (told-lines (requestOf t)) (told-first _ _ _ (past-asked (pastZero t)) told-none)) .told k place e
+checked-range t k place column e =
+    ranged-first _ _ _ (room-asked (hasRoom (length (t .formTable)) (length (t .policyTable)) (length (t .stepTable))))
+    (ranged-all _ _ (ranged-lines (requestOf t)) (ranged-first _ _ _ (past-asked (pastZero t)) ranged-none)) .ranged k place column e
 
 -- Writing.
-pub writing-range : (t : Lent) (len k place : ℕ) → writing t len ≡ unwritten (answer k place) → ByWriting k place
+pub writing-range : (t : Lent) (len k place column : ℕ) → writing t len ≡ unwritten (told k place column) → ByWriting k place × (column ≡ 0)
 unfolding writing writtenIf
-writing-range t len k place e = go (checked t) refl e
+writing-range t len k place column e = go (checked t) refl e
   where
-    out : (fits : Bool) (s : List ℕ) → cond fits (written s) (unwritten (answer 14 0)) ≡ unwritten (answer k place) → ByWriting k place
+    out : (fits : Bool) (s : List ℕ) → cond fits (written s) (unwritten (answer 14 0)) ≡ unwritten (told k place column) →
+        ByWriting k place × (column ≡ 0)
     out true s d = never cc
-    out false s d = no-output (cc) (cc)
+    out false s d = (no-output (cc) (cc), cc)
 
-    go : (a : Answer) → checked t ≡ a → writtenIf a (requestText (requestOf t)) len ≡ unwritten (answer k place) → ByWriting k place
-    go (answer zero p) c d = out (leb (length (requestText (requestOf t))) len) (requestText (requestOf t)) d
-    go (answer (suc n) p) c d =
+    go : (a : Answer) → checked t ≡ a → writtenIf a (requestText (requestOf t)) len ≡ unwritten (told k place column) →
+        ByWriting k place × (column ≡ 0)
+    go (told zero p m) c d = out (leb (length (requestText (requestOf t))) len) (requestText (requestOf t)) d
+    go (told (suc n) p m) c d =
         let z : suc n ≡ k = cc in
         let y : p ≡ place = cc in
-        rw (z, y) at (by-checks (checked-range t n p c))
+        let x : m ≡ column = cc in
+        let r = checked-range t n p m c in
+        (rw (z, y) at (by-checks (r .0)), rw x at (r .1))

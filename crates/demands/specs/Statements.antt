@@ -5,7 +5,7 @@ use mathlib.Core.Path.{_≡_}
 use mathlib.Core.List.{List}
 use mathlib.Core.Logic.{_↔_, _⊎_}
 use lib.ListN.{length}
-use Rattle.scope.specs.Call.Answer.{Answer, answer}
+use Rattle.scope.specs.Call.Answer.{Answer, told, answer}
 use Rattle.scope.specs.Call.Tables.{Lent, requestOf}
 use Rattle.scope.specs.Call.Checked.{checked}
 use Rattle.scope.specs.Call.Calls.{reading, unwritten, writing}
@@ -42,34 +42,35 @@ gate-prints = Gate.gate-prints
 pub prints-gate : (s : List ℕ) (p : Printed) → Prints s p → gate s ≡ p
 prints-gate = Gate.prints-gate
 
-pub gate-grants : (s : List ℕ) (q : Request) → Granting s q → gate s ≡ prints 0 0 (length (q .steps))
+pub gate-grants : (s : List ℕ) (q : Request) → Granting s q → gate s ≡ prints 0 0 (length (q .steps)) 0
 gate-grants = Gate.gate-grants
 
-pub granted-gate : (s : List ℕ) (place n : ℕ) → gate s ≡ prints 0 place n → (q : Request) × Granting s q × (length (q .steps) ≡ n)
+pub granted-gate : (s : List ℕ) (place n column : ℕ) → gate s ≡ prints 0 place n column → (q : Request) × Granting s q × (length (q .steps) ≡ n)
 granted-gate = Gate.granted-gate
 
 pub gate-entails : (s : List ℕ) (q : Request) → Granting s q → Entailed (q .principals) (q .atoms) (policyOf q) (goalOf q)
 gate-entails = Gate.gate-entails
 
--- The numbers and places of refusals (Ranges) and of answers (AnswerRanges).
-pub reading-range : (forms policy steps : ℕ) (s : List ℕ) (k place : ℕ) → reading forms policy steps s ≡ refused (answer k place) → ByReading s k place
+-- The numbers, places and columns of refusals (Ranges) and of answers (AnswerRanges).
+pub reading-range : (forms policy steps : ℕ) (s : List ℕ) (k place column : ℕ) → reading forms policy steps s ≡ refused (told k place column) →
+    ByReading s k place column
 reading-range = Ranges.reading-range
 
-pub read-number : (forms policy steps : ℕ) (s : List ℕ) (k place : ℕ) → reading forms policy steps s ≡ refused (answer k place) →
+pub read-number : (forms policy steps : ℕ) (s : List ℕ) (k place column : ℕ) → reading forms policy steps s ≡ refused (told k place column) →
     Between 1 6 k ⊎ (k ≡ 13)
 read-number = Ranges.read-number
 
-pub checked-range : (t : Lent) (k place : ℕ) → checked t ≡ answer (suc k) place → ByChecks (suc k) place
+pub checked-range : (t : Lent) (k place column : ℕ) → checked t ≡ told (suc k) place column → ByChecks (suc k) place × (column ≡ 0)
 checked-range = Ranges.checked-range
 
-pub writing-range : (t : Lent) (len k place : ℕ) → writing t len ≡ unwritten (answer k place) → ByWriting k place
+pub writing-range : (t : Lent) (len k place column : ℕ) → writing t len ≡ unwritten (told k place column) → ByWriting k place × (column ≡ 0)
 writing-range = Ranges.writing-range
 
-pub judge-range : (t : Lent) (k place : ℕ) → judge t ≡ answer k place → ByJudging t k place
+pub judge-range : (t : Lent) (k place column : ℕ) → judge t ≡ told k place column → ByJudging t k place × (column ≡ 0)
 judge-range = AnswerRanges.judge-range
 
-pub gate-range : (s : List ℕ) (k place n : ℕ) → gate s ≡ prints k place n → ByGate s k place n
+pub gate-range : (s : List ℕ) (k place n column : ℕ) → gate s ≡ prints k place n column → ByGate s k place n column
 gate-range = AnswerRanges.gate-range
 
-pub gate-number : (s : List ℕ) (k place n : ℕ) → gate s ≡ prints k place n → Between 0 12 k
+pub gate-number : (s : List ℕ) (k place n column : ℕ) → gate s ≡ prints k place n column → Between 0 12 k
 gate-number = AnswerRanges.gate-number

@@ -64,19 +64,22 @@ line-added before key shown one two three number places fewest shown-is one-is t
       same = three-is ∙ ap (λ (l : List ℕ). l ++ lf) middle ∙ append-assoc before (key ++ ds) lf;
     }
 
--- The three lines, one after the other from an empty text on.
-pub three-lines :
-    (answer place steps a p s : ℕ) (one two three : List ℕ) → a ≡ answer → p ≡ place → s ≡ steps
+-- The four lines, one after the other from an empty text on.
+pub four-lines :
+    (answer place steps column a p s k : ℕ) (one two three four : List ℕ) → a ≡ answer → p ≡ place → s ≡ steps → k ≡ column
     → Longer [] (bytes "answer=") a one → Longer one (bytes "place=") p two → Longer two (bytes "steps=") s three
-    → Shown answer place steps three
-three-lines answer place steps a p s one two three a-is p-is s-is first second third =
+    → Longer three (bytes "column=") k four → Shown answer place steps column four
+four-lines answer place steps column a p s k one two three four a-is p-is s-is k-is first second third fourth =
+    let to-second = second .same ∙ ap (λ (l : List ℕ). l ++ second .line) (first .same) in
+    let to-third = third .same ∙ ap (λ (l : List ℕ). l ++ third .line) to-second in
     record {
       first = first .line;
       second = second .line;
       third = third .line;
+      fourth = fourth .line;
       answer-is = subst (λ (n : ℕ). Line (bytes "answer=") n (first .line)) a-is (first .is);
       place-is = subst (λ (n : ℕ). Line (bytes "place=") n (second .line)) p-is (second .is);
       steps-is = subst (λ (n : ℕ). Line (bytes "steps=") n (third .line)) s-is (third .is);
-      same = third .same
-          ∙ ap (λ (l : List ℕ). l ++ third .line) (second .same ∙ ap (λ (l : List ℕ). l ++ second .line) (first .same));
+      column-is = subst (λ (n : ℕ). Line (bytes "column=") n (fourth .line)) k-is (fourth .is);
+      same = fourth .same ∙ ap (λ (l : List ℕ). l ++ fourth .line) to-third;
     }

@@ -1,4 +1,5 @@
--- The text that the gate program prints: 'it prints the refusal number, the place, and the steps read'. Assumes nothing.
+-- The text that the gate program prints: 'it prints the refusal number, the place, and the steps read', and request d)'s '`column=` as its
+-- fourth line'. Assumes nothing.
 use Prim.Native.Nat.{ℕ}
 use Prim.Native.String.{String}
 use Prim.Native.String as Str
@@ -23,12 +24,14 @@ pub record Longer (before key : List ℕ) (number : ℕ) (after : List ℕ) : Ty
   pub is : Line key number line
   pub same : after ≡ before ++ line
 
--- The three lines.
-pub record Shown (answer place steps : ℕ) (text : List ℕ) : Type 0 where
+-- The four lines.
+pub record Shown (answer place steps column : ℕ) (text : List ℕ) : Type 0 where
   pub first : List ℕ
   pub second : List ℕ
   pub third : List ℕ
+  pub fourth : List ℕ
   pub answer-is : Line (bytes "answer=") answer first
   pub place-is : Line (bytes "place=") place second
   pub steps-is : Line (bytes "steps=") steps third
-  pub same : text ≡ first ++ second ++ third
+  pub column-is : Line (bytes "column=") column fourth
+  pub same : text ≡ first ++ second ++ third ++ fourth

@@ -1,5 +1,5 @@
-// The gate program: the request on standard input is judged, and the refusal number, the place and
-// the steps read are printed.
+// The gate program: the request on standard input is judged, and the refusal number, the place, the
+// steps read and the column are printed.
 mod shown;
 
 use libc::STDERR_FILENO;
@@ -24,7 +24,7 @@ fn main() {
     }
     let length = input.length;
     let printed = gatelib::gate(&file[..length]);
-    let mut text = [0u8; 96];
+    let mut text = [0u8; 128];
     let end = shown::put_printed(printed, &mut text);
     let written = io::write_all(STDOUT_FILENO, &text[..end]);
     if !written {

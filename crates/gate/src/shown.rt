@@ -6,17 +6,19 @@ ghost use lib.ListN.{length, take};
 ghost use Rattle.io.specs.Counts.{Counts};
 ghost use Rattle.gate.specs.Shown.{Longer, Shown};
 
-// Puts the three lines at the start of the text, and answers how long they are.
-pub(crate) fn put_printed(printed: gatelib::Printed, text: &mut [u8; 96]) -> usize
+// Puts the four lines at the start of the text, and answers how long they are.
+pub(crate) fn put_printed(printed: gatelib::Printed, text: &mut [u8; 128]) -> usize
     ensures { λ r. ⌜ Counts r (now (text .exit)) ⌝ }
-    ensures { λ r. ⌜ Shown (printed .answer) (printed .place) (printed .steps) (take r (now (text .exit))) ⌝ }
+    ensures { λ r. ⌜ Shown (printed .answer) (printed .place) (printed .steps) (printed .column) (take r (now (text .exit))) ⌝ }
 {
     let answer = wide16(printed.answer);
     let place = wide32(printed.place);
     let steps = wide16(printed.steps);
+    let column = wide16(printed.column);
     let first = put_line(b"answer=", answer, text, 0);
     let second = put_line(b"place=", place, text, first);
-    put_line(b"steps=", steps, text, second)
+    let third = put_line(b"steps=", steps, text, second);
+    put_line(b"column=", column, text, third)
 }
 
 // Puts a line into the text from `at` on, and answers where it ends.

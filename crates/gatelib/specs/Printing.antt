@@ -3,7 +3,7 @@ use Prim.Native.Nat.{ℕ, _*_}
 use mathlib.Core.Path.{_≡_, refl, sym, ap, _∙_}
 use mathlib.Core.List.{List}
 use lib.ListN.{length}
-use Rattle.scope.specs.Call.Answer.{answer}
+use Rattle.scope.specs.Call.Answer.{told}
 use Rattle.scope.specs.File.Request.{Request}
 use Rattle.scope.specs.Call.Answer as S
 use Rattle.scope.specs.Limits.{mostFormulas, mostPolicyLines, mostSteps}
@@ -24,11 +24,11 @@ use Rattle.demands.specs.Gate.{gateReads, gate-judges, prints-gate, unread}
 use Rattle.gatelib.specs.declared.Printed.{Printed}
 
 unfoldable pub printedOf : J.Printed → Printed
-printedOf (prints k place n) = record { answer = k; place = place; steps = n }
+printedOf (prints k place n column) = record { answer = k; place = place; steps = n; column = column }
 
 unfoldable pub unreadOf : Reading → Printed
-unreadOf (Reading.Read c) = record { answer = 0; place = 0; steps = 0 }
-unreadOf (Reading.Refused r) = record { answer = r .refusal; place = r .place; steps = 0 }
+unreadOf (Reading.Read c) = record { answer = 0; place = 0; steps = 0; column = 0 }
+unreadOf (Reading.Refused r) = record { answer = r .refusal; place = r .place; steps = 0; column = r .column }
 
 pub unread-prints : (s : List ℕ) (r : Returned) → readingOf (gateReads s) ≡ Reading.Refused r →
     unreadOf (Reading.Refused r) ≡ printedOf (gate s)
@@ -37,12 +37,12 @@ unread-prints s r e = go (gateReads s) refl e
   where
     go : (o : Outcome) → gateReads s ≡ o → readingOf o ≡ Reading.Refused r → unreadOf (Reading.Refused r) ≡ printedOf (gate s)
     go (read q) c d = never cc
-    go (refused (answer k place)) c d = rw (prints-gate s (prints k place 0) (unread c)) (ap unreadOf (sym d))
+    go (refused (told k place column)) c d = rw (prints-gate s (prints k place 0 column) (unread c)) (ap unreadOf (sym d))
 
 printed-answer : (a : S.Answer) (n : ℕ) →
-    printedOf (printed a n) ≡ record { answer = answerOf a .refusal; place = answerOf a .place; steps = n }
+    printedOf (printed a n) ≡ record { answer = answerOf a .refusal; place = answerOf a .place; steps = n; column = answerOf a .column }
 unfolding printedOf printed
-printed-answer (S.answer k place) n = refl
+printed-answer (S.told k place column) n = refl
 
 -- The tables as reading leaves them, with the counts that it answers, say the request that was read.
 lent-is : (q : Request) →
@@ -52,7 +52,7 @@ unfolding formTableAfter policyTableAfter stepTableAfter requestIn lentOf
 lent-is q = refl
 
 abbrev put : Returned → ℕ → Printed
-put a n = record { answer = a .refusal; place = a .place; steps = n }
+put a n = record { answer = a .refusal; place = a .place; steps = n; column = a .column }
 
 -- What the gate puts together from the judge's answer and the count of steps.
 pub read-prints : (s : List ℕ) (c : Counts) (forms policy steps : List ℕ) (a : Returned) → readingOf (gateReads s) ≡ Reading.Read c →
@@ -62,7 +62,7 @@ unfolding readingOf
 read-prints s c forms policy steps a e f l p j = go (gateReads s) refl e
   where
     go : (o : Outcome) → gateReads s ≡ o → readingOf o ≡ Reading.Read c → put a (c .steps) ≡ printedOf (gate s)
-    go (refused (answer k place)) d h = never cc
+    go (refused (told k place column)) d h = never cc
     go (read q) d h =
         let k : countsOf q ≡ c = cc in
         let t : lentWith c forms policy steps ≡ lentOf (3 * mostFormulas) mostPolicyLines (2 * mostSteps) q =

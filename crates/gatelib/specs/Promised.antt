@@ -1,4 +1,4 @@
--- What a caller may conclude from the gate's three numbers: answer 0 exactly where the file reads to a request whose steps are a derivation
+-- What a caller may conclude from the gate's four numbers: answer 0 exactly where the file reads to a request whose steps are a derivation
 -- within the limits; and then the goal holds in every finite model, at each world where the policy holds.
 use Prim.Native.Nat.{ℕ}
 use mathlib.Core.Path.{_≡_, refl, sym, ap, _∙_}
@@ -14,7 +14,7 @@ use Rattle.gatelib.specs.Printing.{printedOf}
 
 zero-read : (s : List ℕ) (p : J.Printed) → gate s ≡ p → printedOf p .answer ≡ 0 → (q : Request) × Granting s q × (length (q .steps) ≡ printedOf p .steps)
 unfolding printedOf
-zero-read s (prints k place n) e z = granted-gate s place n (e ∙ ap (λ x. prints x place n) z)
+zero-read s (prints k place n column) e z = granted-gate s place n column (e ∙ ap (λ x. prints x place n column) z)
 
 pub answer-zero : (s : List ℕ) (r : Printed) → r ≡ printedOf (gate s) → r .answer ≡ 0 →
     (q : Request) × Granting s q × (length (q .steps) ≡ r .steps)
@@ -23,11 +23,11 @@ answer-zero s r e z =
     (g .0, g .1, g .2 ∙ sym (ap (λ (p : Printed). p .steps) e))
 
 pub zero-answer : (s : List ℕ) (r : Printed) (q : Request) → r ≡ printedOf (gate s) → Granting s q →
-    (r .answer ≡ 0) × (r .place ≡ 0) × (r .steps ≡ length (q .steps))
+    (r .answer ≡ 0) × (r .place ≡ 0) × (r .steps ≡ length (q .steps)) × (r .column ≡ 0)
 unfolding printedOf
 zero-answer s r q e g =
     let h = e ∙ ap printedOf (gate-grants s q g) in
-    (ap (λ (p : Printed). p .answer) h, ap (λ (p : Printed). p .place) h, ap (λ (p : Printed). p .steps) h)
+    (ap (λ (p : Printed). p .answer) h, ap (λ (p : Printed). p .place) h, ap (λ (p : Printed). p .steps) h, ap (λ (p : Printed). p .column) h)
 
 pub zero-entails : (s : List ℕ) (r : Printed) → r ≡ printedOf (gate s) → r .answer ≡ 0 →
     (q : Request) × Granting s q × Entailed (q .principals) (q .atoms) (policyOf q) (goalOf q)

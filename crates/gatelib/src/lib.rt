@@ -1,15 +1,16 @@
-// The gate: from the bytes of a file to the three numbers that are printed.
+// The gate: from the bytes of a file to the four numbers that are printed.
 ghost use mathlib.Core.Path.{_≡_};
 ghost use Rattle.scope.specs.Call.Judge.{gate as gate'};
 ghost use Rattle.gatelib.specs.Printing.{printedOf, unreadOf};
 use reader::Reading;
 
-// The refusal number, the place, and the steps read (0 if reading is refused).
+// The refusal number, the place, the steps read (0 if reading is refused), and for refusal 2 the column.
 #[repr(C)]
 pub struct Printed {
     pub answer: u16,
     pub place: u32,
     pub steps: u16,
+    pub column: u16,
 }
 
 // Called on a refusal alone: nothing reaches the first case.
@@ -21,11 +22,13 @@ fn unread_by(got: Reading) -> Printed
             answer: 0,
             place: 0,
             steps: 0,
+            column: 0,
         },
         Reading::Refused(r) => Printed {
             answer: r.refusal,
             place: r.place,
             steps: 0,
+            column: r.column,
         },
     }
 }
@@ -45,5 +48,6 @@ pub fn gate(file: &[u8]) -> Printed
         answer: a.refusal,
         place: a.place,
         steps: counts.steps,
+        column: a.column,
     }
 }

@@ -7,10 +7,10 @@ use Rattle.common.specs.declared.Answer.{Answer}
 
 -- What the checks refuse.
 unfoldable pub refusalAnswer : Checked → Answer
-refusalAnswer checked.Fine = record { refusal = 0; place = 0 }
+refusalAnswer checked.Fine = record { refusal = 0; place = 0; column = 0 }
 refusalAnswer (checked.Refused a) = a
 
 -- What the walk answers.
 unfoldable pub walkedTo : Walked → Answer
-walkedTo walked.Granted = record { refusal = 0; place = 0 }
-walkedTo (walked.Refused r) = record { refusal = r .number; place = r .step }
+walkedTo walked.Granted = record { refusal = 0; place = 0; column = 0 }
+walkedTo (walked.Refused r) = record { refusal = r .number; place = r .step; column = 0 }

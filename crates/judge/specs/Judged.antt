@@ -2,7 +2,7 @@
 use Prim.Native.Nat.{zero, suc}
 use mathlib.Core.Path.{_≡_, refl, sym, ap, _∙_}
 use Rattle.scope.specs.Call.Answer as S
-use Rattle.scope.specs.Call.Answer.{answer}
+use Rattle.scope.specs.Call.Answer.{told, answer}
 use Rattle.scope.specs.Call.Tables.{Lent, requestOf}
 use Rattle.scope.specs.Call.Checked.{checked}
 use Rattle.scope.specs.Call.Judge.{stepsAnswer, judge, else}
@@ -24,9 +24,9 @@ unfolding refusalAnswer checkedOf
 checks-refuse t r e = go (checked t) refl e
   where
     go : (a : S.Answer) → checked t ≡ a → checkedOf a ≡ Refused r → refusalAnswer (Refused r) ≡ answerOf (judge t)
-    go (answer zero p) c d = never cc
-    go (answer (suc k) p) c d =
-        let j : judge t ≡ answer (suc k) p = judge-law t ∙ ap (λ a. else a (stepsAnswer (requestOf t))) c ∙ else-refused k p (stepsAnswer (requestOf t)) in
+    go (told zero p n) c d = never cc
+    go (told (suc k) p n) c d =
+        let j : judge t ≡ told (suc k) p n = judge-law t ∙ ap (λ a. else a (stepsAnswer (requestOf t))) c ∙ else-refused k p n (stepsAnswer (requestOf t)) in
         rw j (ap refusalAnswer (sym d))
 
 fine-zero : (t : Lent) → checkedOf (checked t) ≡ Fine → checked t ≡ answer 0 0
@@ -34,8 +34,8 @@ unfolding checkedOf
 fine-zero t e = go (checked t) refl e
   where
     go : (a : S.Answer) → checked t ≡ a → checkedOf a ≡ Fine → checked t ≡ answer 0 0
-    go (answer zero p) c d = unmet t p c
-    go (answer (suc k) p) c d = never cc
+    go (told zero p n) c d = unmet t p n c
+    go (told (suc k) p n) c d = never cc
 
 walked-is : (w : Walked) → walkedTo w ≡ answerOf (walkedAnswer w)
 unfolding walkedTo walkedAnswer
@@ -46,5 +46,5 @@ pub walk-answers : (t : Lent) → checkedOf (checked t) ≡ Fine →
     walkedTo (ran (t .formTable) (t .policyTable) (t .stepTable) (t .policy) (t .goal) (t .steps)) ≡ answerOf (judge t)
 walk-answers t e =
     let c = fine-zero t e in
-    let j : judge t ≡ stepsAnswer (requestOf t) = judge-law t ∙ ap (λ a. else a (stepsAnswer (requestOf t))) c ∙ else-passes 0 (stepsAnswer (requestOf t)) in
+    let j : judge t ≡ stepsAnswer (requestOf t) = judge-law t ∙ ap (λ a. else a (stepsAnswer (requestOf t))) c ∙ else-passes 0 0 (stepsAnswer (requestOf t)) in
     walked-is _ ∙ ap answerOf (ran-walks t c ∙ sym j)

@@ -2,7 +2,7 @@
 -- limits; and then the goal holds in every finite model, at each world where the policy holds.
 use mathlib.Core.Path.{_≡_, refl, sym, ap, _∙_}
 use Rattle.scope.specs.Call.Answer as S
-use Rattle.scope.specs.Call.Answer.{answer}
+use Rattle.scope.specs.Call.Answer.{told}
 use Rattle.scope.specs.Call.Tables.{Lent, requestOf}
 use Rattle.scope.specs.Call.Judge.{policyOf, goalOf, judge}
 use Rattle.scope.specs.Logic.Models.{Entailed}
@@ -11,15 +11,16 @@ use Rattle.common.specs.declared.Answer.{Answer}
 use Rattle.common.specs.Answers.{answerOf}
 
 zero-allowed : (t : Lent) (a : S.Answer) → judge t ≡ a → answerOf a .refusal ≡ 0 → Grants t
-zero-allowed t (answer k place) e z = allowed-grants t (answer k place) place (ap (λ n. answer n place) z) (rw e at (judge-allowed t))
+zero-allowed t (told k place column) e z =
+    allowed-grants t (told k place column) place column (ap (λ n. told n place column) z) (rw e at (judge-allowed t))
 
 pub refusal-zero : (t : Lent) (r : Answer) → r ≡ answerOf (judge t) → r .refusal ≡ 0 → Grants t
 refusal-zero t r e z = zero-allowed t (judge t) refl (sym (ap (λ a. a .refusal) e) ∙ z)
 
-pub grants-zero : (t : Lent) (r : Answer) → r ≡ answerOf (judge t) → Grants t → (r .refusal ≡ 0) × (r .place ≡ 0)
+pub grants-zero : (t : Lent) (r : Answer) → r ≡ answerOf (judge t) → Grants t → (r .refusal ≡ 0) × (r .place ≡ 0) × (r .column ≡ 0)
 grants-zero t r e g =
     let h = e ∙ ap answerOf (judge-grants t .1 g) in
-    (ap (λ a. a .refusal) h, ap (λ a. a .place) h)
+    (ap (λ a. a .refusal) h, ap (λ a. a .place) h, ap (λ a. a .column) h)
 
 pub zero-entails : (t : Lent) (r : Answer) → r ≡ answerOf (judge t) → r .refusal ≡ 0 →
     Entailed (t .principals) (t .atoms) (policyOf (requestOf t)) (goalOf (requestOf t))

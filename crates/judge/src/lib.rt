@@ -18,6 +18,7 @@ fn refused_by(checks: Checked) -> Answer
         Checked::Fine => Answer {
             refusal: 0,
             place: 0,
+            column: 0,
         },
         Checked::Refused(answer) => answer,
     }
@@ -33,10 +34,12 @@ fn walked_to(walked: Walked) -> Answer
         Walked::Granted => Answer {
             refusal: GRANTED,
             place: 0,
+            column: 0,
         },
         Walked::Refused(r) => Answer {
             refusal: r.number,
             place: r.step,
+            column: 0,
         },
     }
 }

@@ -9,7 +9,8 @@ use lib.ListN.{length, getD, drop, drop-of-length-le}
 use Rattle.scope.specs.File.Request.{Row}
 use Rattle.scope.specs.Logic.Form.{both}
 use Rattle.scope.specs.File.Number.{isDigit, digits, number}
-use Rattle.lines.specs.Stop.{mostDigits, digitsUpTo, numberStop, counts-full, counts-none, digits-stops, number-long, number-bad, number-good}
+use Rattle.scope.specs.File.Stops.{mostDigits, digitsUpTo, numberStop}
+use Rattle.lines.specs.Stop.{counts-full, counts-none, digits-stops, number-long, number-bad, number-good}
 use Rattle.lines.specs.declared.Number.{Number}
 use Rattle.lines.specs.declared.Number.the-variants as N
 use Rattle.lines.specs.declared.Row.{Row as RowValue}

@@ -12,7 +12,8 @@ use lib.ListN.{length, take, drop, getD, length-drop, drop-of-length-le}
 use lib.Seq.{drop-cons, take-all, take-nil}
 use borrow.Author.Tests.{eq-eqb, ne-eqb}
 use Rattle.scope.specs.Logic.Form.{both}
-use Rattle.scope.specs.File.Line.{Line, Cut, parts, uncut, cut, cutAfter, strip, valued, shapedAs, placed, lineOf, line}
+use Rattle.scope.specs.Call.Answer.{columnFor}
+use Rattle.scope.specs.File.Line.{Line, Cut, parts, uncut, cut, cutAfter, strip, valued, shapedAs, placed, lineOf, lineStop, line}
 use Rattle.scope.specs.File.Kinds.{same}
 
 -- How many numbers, bytes of a text or codes of words, stand before the first b: all, where there is none.
@@ -50,16 +51,16 @@ unfolding valued valueIn shapedAs
 value-parts l refusal none e = rw e refl
 value-parts l refusal (some v) e = refl
 
-cut-parts : {A : Type 0} (l : Line A) (refusal : A → ℕ) (i : ℕ) (c : Cut) → l .shape .thing [] ≡ none
-    → lineOf l refusal i c ≡ placed i (shapedAs refusal (l .shape .thing (lineValue (l .key) c))) (lineRest c)
-unfolding lineOf placed shapedAs lineValue lineRest
-cut-parts l refusal i uncut e = rw e refl
-cut-parts l refusal i (parts t rest) e = ap (λ v. placed i v rest) (value-parts l refusal (strip (l .key) t) e)
+cut-parts : {A : Type 0} (l : Line A) (refusal : A → ℕ) (i column : ℕ) (c : Cut) → l .shape .thing [] ≡ none
+    → lineOf l refusal i column c ≡ placed i column (shapedAs refusal (l .shape .thing (lineValue (l .key) c))) (lineRest c)
+unfolding lineOf placed columnFor shapedAs lineValue lineRest
+cut-parts l refusal i column uncut e = rw e refl
+cut-parts l refusal i column (parts t rest) e = ap (λ v. placed i column v rest) (value-parts l refusal (strip (l .key) t) e)
 
 pub line-parts : {A : Type 0} (l : Line A) (refusal : A → ℕ) (i : ℕ) (s : List ℕ) → l .shape .thing [] ≡ none
-    → line l refusal i s ≡ placed i (shapedAs refusal (l .shape .thing (valueOf (l .key) s))) (restOf s)
+    → line l refusal i s ≡ placed i (suc (lineStop l s)) (shapedAs refusal (l .shape .thing (valueOf (l .key) s))) (restOf s)
 unfolding line valueOf restOf
-line-parts l refusal i s e = cut-parts l refusal i (cut 10 s) e
+line-parts l refusal i s e = cut-parts l refusal i (suc (lineStop l s)) (cut 10 s) e
 
 -- The first byte b, met and not met.
 pub upTo-le : (b : ℕ) (s : List ℕ) → upTo b s ≤ length s

@@ -1,4 +1,4 @@
--- Where the text of a number stops being one.
+-- Where the text of a number stops being one, at a place that the code has reached.
 use Prim.Native.Nat.{ℕ, zero, suc, _+_, _-_, _*_, _≤_, _<_}
 use native.Mathlib.Nat.{zero-add, sub-zero}
 use native.Mathlib.Numerals.{add-one}
@@ -13,23 +13,7 @@ use lib.Seq.{drop-cons}
 use borrow.Author.Tests.{le-leb, lt-leb, eq-eqb, ne-eqb}
 use Rattle.scope.specs.Logic.Form.{both}
 use Rattle.scope.specs.File.Number.{isDigit, digits, leadingZero, number}
-
--- 'A number is 1 to 5 digits, no leading zero but in 0 itself': the most digits of a number with this first byte.
-unfoldable pub mostDigits : List ℕ → ℕ
-mostDigits [] = 0
-mostDigits (b ∷ s) = cond (eqb b 48) 1 5
-
--- The digits at the front, counted up to a most.
-unfoldable pub digitsUpTo : ℕ → List ℕ → ℕ
-unfolding isDigit
-digitsUpTo zero s = 0
-digitsUpTo (suc m) [] = 0
-digitsUpTo (suc m) (b ∷ s) = cond (isDigit b) (suc (digitsUpTo m s)) 0
-
--- The place of the first byte that cannot go on; the length, where every byte can.
-unfoldable pub numberStop : List ℕ → ℕ
-unfolding mostDigits digitsUpTo
-numberStop s = digitsUpTo (mostDigits s) s
+use Rattle.scope.specs.File.Stops.{mostDigits, digitsUpTo}
 
 pub most-five : (s : List ℕ) → mostDigits s ≤ 5
 unfolding mostDigits

@@ -5,7 +5,7 @@ ghost use Prim.Native.Nat.{_≤_};
 ghost use Rattle.scope.specs.File.Number.{number};
 ghost use Rattle.scope.specs.File.Kinds.{same, items, numbers, formKinds, stepKinds, rowIn};
 ghost use Rattle.lines.specs.Parts.{upTo, valueOf, restOf};
-ghost use Rattle.lines.specs.Stop.{mostDigits, numberStop};
+ghost use Rattle.scope.specs.File.Stops.{mostDigits, numberStop};
 ghost use Rattle.lines.specs.Words.{codeOf, laterItems, wantedRow};
 ghost use Rattle.lines.specs.Answers.{numberAnswer, rowAnswer};
 

@@ -1,6 +1,6 @@
--- What the reader answers, as one record: the refusal and its place, and the counts and the goal, which are 0 after a refusal.
+-- What the reader answers, as one record: the refusal, its place and its column, and the counts and the goal, which are 0 after a refusal.
 use mathlib.Core.Path.{_≡_, refl}
-use Rattle.scope.specs.Call.Answer.{answer, refusalIn, placeIn}
+use Rattle.scope.specs.Call.Answer.{told, refusalIn, placeIn, columnIn}
 use Rattle.scope.specs.File.Reader.{Outcome, read, refused}
 use Rattle.scope.specs.Call.Calls.{outcomeAnswer, noRequest, requestIn}
 use Rattle.reader.specs.declared.Reading.{Reading}
@@ -9,14 +9,20 @@ use Rattle.reader.specs.Answers.{countsOf, readingOf}
 use Rattle.peraduksi.specs.declared.Read.{Read}
 
 unfoldable pub readOf : Outcome → Read
-unfolding refusalIn placeIn outcomeAnswer requestIn
-readOf o = record { refusal = refusalIn (outcomeAnswer o); place = placeIn (outcomeAnswer o); counts = countsOf (requestIn o) }
+unfolding refusalIn placeIn columnIn outcomeAnswer requestIn
+readOf o =
+    record {
+      refusal = refusalIn (outcomeAnswer o);
+      place = placeIn (outcomeAnswer o);
+      column = columnIn (outcomeAnswer o);
+      counts = countsOf (requestIn o);
+    }
 
 unfoldable pub readIn : Reading → Read
-readIn (Reading.Read c) = record { refusal = 0; place = 0; counts = c }
-readIn (Reading.Refused r) = record { refusal = r .refusal; place = r .place; counts = countsOf noRequest }
+readIn (Reading.Read c) = record { refusal = 0; place = 0; column = 0; counts = c }
+readIn (Reading.Refused r) = record { refusal = r .refusal; place = r .place; column = r .column; counts = countsOf noRequest }
 
 pub read-in : (o : Outcome) → readIn (readingOf o) ≡ readOf o
-unfolding readIn readingOf readOf refusalIn placeIn outcomeAnswer requestIn
+unfolding readIn readingOf readOf refusalIn placeIn columnIn outcomeAnswer requestIn
 read-in (read q) = refl
-read-in (refused (answer k place)) = refl
+read-in (refused (told k place column)) = refl

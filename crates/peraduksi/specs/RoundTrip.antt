@@ -8,7 +8,7 @@ use mathlib.Core.Bool.{Bool, true, false, cond}
 use lib.Dec.{leb}
 use lib.ListN.{length, take, replicate}
 use lib.Seq.{take-append-seam}
-use Rattle.scope.specs.Call.Answer.{Answer, answer, refusalIn, placeIn}
+use Rattle.scope.specs.Call.Answer.{Answer, told, answer, refusalIn, placeIn, columnIn}
 use Rattle.scope.specs.File.Request.{Request}
 use Rattle.scope.specs.File.Text.{requestText}
 use Rattle.scope.specs.File.Reader.{Outcome, read, refused}
@@ -62,8 +62,8 @@ picked false s e = absurd (omega arith)
 
 if-none : (a : Answer) (s : List ℕ) (len : ℕ) → refusalIn (writtenAnswer (writtenIf a s len)) ≡ 0 → writtenIf a s len ≡ written (textIn (writtenIf a s len))
 unfolding writtenIf refusalIn writtenAnswer
-if-none (answer zero place) s len e = picked (leb (length s) len) s e
-if-none (answer (suc k) place) s len e = absurd (omega arith)
+if-none (told zero place column) s len e = picked (leb (length s) len) s e
+if-none (told (suc k) place column) s len e = absurd (omega arith)
 
 -- Refusal 0 is answered of a written text alone.
 fine-written : (t : Lent) (len : ℕ) → refusalIn (writtenAnswer (writing t len)) ≡ 0 → writing t len ≡ written (textIn (writing t len))
@@ -101,8 +101,8 @@ pub written-reads : {counts : Counts} {forms policy steps out : List ℕ} {w : W
     Wrote counts forms policy steps out w o → w .refusal ≡ 0 →
     length forms₀ ≡ length forms → length policy₀ ≡ length policy → length steps₀ ≡ length steps →
     Did-read (take (w .length) o) forms₀ policy₀ steps₀ r f p s →
-    (r ≡ record { refusal = 0; place = 0; counts = counts }) × (f ≡ forms) × (p ≡ policy) × (s ≡ steps)
-unfolding writingOf readOf refusalIn placeIn outcomeAnswer requestIn lentAfter lentOf formTableAfter policyTableAfter stepTableAfter
+    (r ≡ record { refusal = 0; place = 0; column = 0; counts = counts }) × (f ≡ forms) × (p ≡ policy) × (s ≡ steps)
+unfolding writingOf readOf refusalIn placeIn columnIn outcomeAnswer requestIn lentAfter lentOf formTableAfter policyTableAfter stepTableAfter
 written-reads {counts} {forms} {policy} {steps} {out} {w} {o} {forms₀} {policy₀} {steps₀} {r} {f} {p} {s} a e lf lp ls d =
     let t = lentWith counts forms policy steps in
     let text = take (w .length) o in
@@ -113,7 +113,7 @@ written-reads {counts} {forms} {policy} {steps} {out} {w} {o} {forms₀} {policy
     let whole : lentOf (length forms) (length policy) (length steps) (requestOf t) ≡ t =
     sym (ap (lentAfter (length forms) (length policy) (length steps)) (back .0)) ∙ back .1 in (
       d .answered ∙ ap readOf same ∙
-          ap (λ (c : Counts). record { refusal = 0; place = 0; counts = c }) (left-counts t (requestOf t) (length forms) (length policy) (length steps) whole),
+          ap (λ (c : Counts). record { refusal = 0; place = 0; column = 0; counts = c }) (left-counts t (requestOf t) (length forms) (length policy) (length steps) whole),
       d .formsLeft ∙ (λ i. formTableAfter (lf i) (same i)) ∙ ap (λ (x : Lent). x .formTable) whole,
       d .policyLeft ∙ (λ i. policyTableAfter (lp i) (same i)) ∙ ap (λ (x : Lent). x .policyTable) whole,
       d .stepsLeft ∙ (λ i. stepTableAfter (ls i) (same i)) ∙ ap (λ (x : Lent). x .stepTable) whole,
@@ -123,14 +123,14 @@ written-reads {counts} {forms} {policy} {steps} {out} {w} {o} {forms₀} {policy
 pub read-writes : {text forms policy steps : List ℕ} {r : Read} {f p s out : List ℕ} {w : Writing} {o : List ℕ} →
     Did-read text forms policy steps r f p s → r .refusal ≡ 0 → length text ≤ length out → Wrote (r .counts) f p s out w o →
     (w ≡ record { refusal = 0; place = 0; length = length text }) × (o ≡ padded (length out) text)
-unfolding writingOf writtenAnswer textIn refusalIn placeIn outputAfter readOf outcomeAnswer requestIn lentAfter lentOf formTableAfter policyTableAfter stepTableAfter
+unfolding writingOf writtenAnswer textIn refusalIn placeIn columnIn outputAfter readOf outcomeAnswer requestIn lentAfter lentOf formTableAfter policyTableAfter stepTableAfter
 read-writes {text} {forms} {policy} {steps} {r} {f} {p} {s} {out} {w} {o} d e h a =
     go (reading (length forms) (length policy) (length steps) text) refl
   where
     go : (x : Outcome) → reading (length forms) (length policy) (length steps) text ≡ x →
         (w ≡ record { refusal = 0; place = 0; length = length text }) × (o ≡ padded (length out) text)
-    go (refused (answer k place)) g =
-        let firm : 0 < k = reading-firm (length forms) (length policy) (length steps) text k place g in
+    go (refused (told k place column)) g =
+        let firm : 0 < k = reading-firm (length forms) (length policy) (length steps) text k place column g in
         let zero : k ≡ 0 = sym (ap (λ (x : Read). x .refusal) (d .answered ∙ ap readOf g)) ∙ e in
         absurd (omega arith)
     go (read q) g =

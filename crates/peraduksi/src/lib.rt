@@ -15,11 +15,12 @@ use gatelib::Printed;
 use reader::Reading;
 use writer::Writing;
 
-// The refusal, 0 where there is none, its place, and the counts and the goal, all 0 if refused.
+// The refusal, 0 where there is none, its place, for 2 the column, and the counts and the goal, all 0 if refused.
 #[repr(C)]
 pub struct Read {
     pub refusal: u16,
     pub place: u32,
+    pub column: u16,
     pub counts: Counts,
 }
 
@@ -30,11 +31,13 @@ fn read_in(got: Reading) -> Read
         Reading::Read(counts) => Read {
             refusal: 0,
             place: 0,
+            column: 0,
             counts,
         },
         Reading::Refused(r) => Read {
             refusal: r.refusal,
             place: r.place,
+            column: r.column,
             counts: Counts {
                 principals: 0,
                 atoms: 0,

@@ -1,12 +1,12 @@
 -- What the answers of the code say, case by case.
-use Prim.Native.Nat.{ℕ, _-_}
+use Prim.Native.Nat.{ℕ, suc, _-_}
 use mathlib.Core.Path.{_≡_, refl}
 use mathlib.Core.List.{List}
 use lib.ListN.{length}
 use Rattle.scope.specs.File.Request.{Row, Request}
-use Rattle.scope.specs.File.Line.{Value, val, out, Read, ok, bad}
+use Rattle.scope.specs.File.Line.{Line, Value, val, out, Read, ok, bad, lineStop}
 use Rattle.scope.specs.File.Reader.{Outcome, read, refused}
-use Rattle.scope.specs.Call.Answer.{Answer, answer}
+use Rattle.scope.specs.Call.Answer.{Answer, told, answer, columnFor}
 use Rattle.scope.specs.Call.Calls.{outcomeAnswer, noRequest, requestIn}
 use Rattle.common.specs.Answers.{answerOf, answerIs, answer-back}
 use Rattle.common.specs.declared.Counts.{Counts}
@@ -28,6 +28,10 @@ use Rattle.reader.specs.declared.Part.the-variants as Part
 
 abbrev pub refusalIs : ℕ → ℕ → Returned
 refusalIs k place = answerOf (answer k place)
+
+-- The refusal of a line, in the text that begins there.
+abbrev pub refusedAt : {A : Type 0} → Line A → ℕ → ℕ → List ℕ → Answer
+refusedAt l k place s = told k place (columnFor k (suc (lineStop l s)))
 
 -- What the reader answers: the counts and the goal, or the refusal and its place.
 abbrev pub countsOf : Request → Counts

@@ -5,10 +5,11 @@ use native.Mathlib.Numerals.{add-one}
 use mathlib.Core.Path.{_≡_, ap, sym, _∙_}
 use mathlib.Core.List.{List, [], _∷_, _++_}
 use lib.ListN.{length, set, replicate, length-append, length-set}
-use Rattle.scope.specs.Call.Answer.{answer}
 use Rattle.scope.specs.Logic.Form.{negate}
 use Rattle.scope.specs.File.Request.{Row}
 use Rattle.scope.specs.File.Line.{Value, val, out, ok, bad, shapedAs, many}
+use Rattle.scope.specs.File.Text.{formLine}
+use Rattle.common.specs.Answers.{answerOf}
 use Rattle.scope.specs.Call.Tables.{unpack, formEntry}
 use Rattle.scope.specs.File.Kinds.{formKinds, rowIn}
 use Rattle.scope.specs.Limits.{mostFormulas, formAt}
@@ -20,7 +21,7 @@ use Rattle.refusals.specs.Rows.{row}
 use Rattle.numbering.specs.Slots.{mostSlots, placeIn, keptAt}
 use Rattle.numbering.specs.Numbered.{Numbered, numbered-none}
 use Rattle.numbering.specs.Refused.{repeat-told, fresh-kept, neither-refused}
-use Rattle.reader.specs.Answers.{refusalIs, rowLineOf, sectionOf}
+use Rattle.reader.specs.Answers.{refusedAt, rowLineOf, sectionOf}
 use Rattle.reader.specs.Lines.{no-form, out-row, val-row, row-ok, row-bad, row-behind}
 use Rattle.reader.specs.NewRows.{askedRow, shaped-same, let-through}
 use Rattle.reader.specs.Stored.{form-more, unpack-table}
@@ -65,14 +66,15 @@ module _ (principals atoms : ℕ) {n : ℕ} {text : List ℕ} {len : ℕ} {numbe
   behind-rows a e =
       sym (shaped-same (askedRow principals atoms i numbers slots) (formRefusal principals atoms (k .before)) asked-is (rowIn formKinds (q .value))) ∙ e
 
-  pub form-stops : {X : List Row → List ℕ → Type 0} (j : ℕ) → q .answer ≡ RowLine.Refused j → (x : Returned) → x ≡ refusalIs j (formAt i)
+  pub form-stops : {X : List Row → List ℕ → Type 0} (j : ℕ) → q .answer ≡ RowLine.Refused j → (x : Returned)
+      → x ≡ answerOf (refusedAt formLine j (formAt i) s)
       → (Section.Refused x ≡ sectionOf (length text) (many (formItem principals atoms) n [] text)) ×
       ((rows : List Row) (over : List ℕ) → many (formItem principals atoms) n [] text ≡ ok rows over → X rows over)
   form-stops j e x d =
-      turn-stops formEntry (formItem principals atoms) n text k h (answer j (formAt i))
+      turn-stops formEntry (formItem principals atoms) n text k h (refusedAt formLine j (formAt i) s)
       (row-bad "form=" formKinds (formRefusal principals atoms (k .before)) s (q .value) (q .part) no-form (formAt (length (k .before))) j
       (behind-rows (out j) (out-row (shapedAs (askedRow principals atoms i numbers slots) (rowIn formKinds (q .value))) j (sym (q .about) ∙ e))) ∙
-      ap (λ m. bad (answer j (formAt m))) (k .count)) x d
+      ap (λ m. bad (refusedAt formLine j (formAt m) s)) (k .count)) x d
 
   module _ (a l r : ℕ) (e : q .answer ≡ RowLine.Row a l r) where
     form-is : shapedAs (askedRow principals atoms i numbers slots) (rowIn formKinds (q .value)) ≡ val (row a l r)

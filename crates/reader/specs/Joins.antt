@@ -7,7 +7,7 @@ use mathlib.Core.Bool.{Bool, true, false}
 use lib.Dec.{ltb}
 use lib.ListN.{length, getD}
 use borrow.Author.Tests.{ltb-true}
-use Rattle.scope.specs.Call.Answer.{Answer, answer}
+use Rattle.scope.specs.Call.Answer.{Answer}
 use Rattle.scope.specs.File.Bytes.{bytes}
 use Rattle.scope.specs.File.Number.{number}
 use Rattle.scope.specs.File.Request.{Row, goalClass, policyClass}
@@ -26,7 +26,7 @@ use Rattle.common.specs.declared.Counts.{Counts}
 use Rattle.common.specs.declared.Answer.{Answer as Returned}
 use Rattle.refusals.specs.Rows.{classRefusal}
 use Rattle.reader.specs.Sections.{Counted, Formulas, PolicyRead, headPart, formulasPart, policyPart, stepsPart, classedItem}
-use Rattle.reader.specs.Answers.{numberLineOf, sectionOf, headCounts, formulasCounts, policyCounts, stepsCounts, partOf}
+use Rattle.reader.specs.Answers.{refusedAt, numberLineOf, sectionOf, headCounts, formulasCounts, policyCounts, stepsCounts, partOf}
 use Rattle.reader.specs.Lines.{number-ok, number-bad}
 use Rattle.reader.specs.Many.{Ends, line-ends, many-ends, many-length, tail-length}
 use Rattle.reader.specs.Turns.{rest-short}
@@ -204,11 +204,11 @@ rows numbers n = unpack formEntry n numbers
 
 pub clauses-stopped : (numbers : List ℕ) (n : ℕ) (s : List ℕ) (k : ℕ)
     → numberLineOf (shapedAs (countRefusal 0 mostPolicyLines) (number (valueOf (bytes "clauses=") s))) ≡ NumberLine.Refused k
-    → policyPart (unpack formEntry n numbers) s ≡ bad (answer k (clausesAt n))
+    → policyPart (unpack formEntry n numbers) s ≡ bad (refusedAt clausesLine k (clausesAt n) s)
 clauses-stopped numbers n s k e =
-    policy-at-count (rows numbers n) s (answer k (clausesAt n))
+    policy-at-count (rows numbers n) s (refusedAt clausesLine k (clausesAt n) s)
     (number-bad "clauses=" clausesRefusal (clausesAt (length (rows numbers n))) s k e ∙
-    ap (λ j. bad (answer k (clausesAt j))) (unpack-length formEntry n numbers))
+    ap (λ j. bad (refusedAt clausesLine k (clausesAt j) s)) (unpack-length formEntry n numbers))
 
 -- The count of a policy's lines, the text behind it, and the classes of the formulas in a table, as the code has them.
 pub record Clauses-kept (numbers : List ℕ) (n : ℕ) (s : List ℕ) : Type 0 where
@@ -261,13 +261,14 @@ module _ {numbers : List ℕ} {n : ℕ} {s : List ℕ} (k : Clauses-kept numbers
     lines-place = omega (arith, linesGot .place)
 
     pub goal-stopped : (j : ℕ) → goalAnswer (partFrom (m .at) (k .rest)) ≡ NumberLine.Refused j
-        → policyPart (unpack formEntry n numbers) s ≡ bad (answer j (goalAt n (k .count)))
+        → policyPart (unpack formEntry n numbers) s ≡ bad (refusedAt goalLine j (goalAt n (k .count)) (partFrom (m .at) (k .rest)))
     goal-stopped j e =
         let place : goalAt (length (rows numbers n)) (length (linesGot .things)) ≡ goalAt n (k .count) = omega
         (arith, many-lines, unpack-length formEntry n numbers) in
-        policy-at-goal (rows numbers n) s (k .count) (k .rest) (linesGot .things) (linesGot .rest) (answer j (goalAt n (k .count))) first (sym same-items ∙ linesGot .is)
+        policy-at-goal (rows numbers n) s (k .count) (k .rest) (linesGot .things) (linesGot .rest)
+        (refusedAt goalLine j (goalAt n (k .count)) (partFrom (m .at) (k .rest))) first (sym same-items ∙ linesGot .is)
         (number-bad "goal=" (goalRefusal (rows numbers n)) (goalAt (length (rows numbers n)) (length (linesGot .things))) (linesGot .rest) j
-        (goal-asked (NumberLine.Refused j) e) ∙ ap (λ h. bad (answer j h)) place)
+        (goal-asked (NumberLine.Refused j) e) ∙ (λ x. bad (refusedAt goalLine j (place x) (sym third x))))
 
     module _ (goal : ℕ) (rest : List ℕ) (r : rest ≡ restOf (partFrom (m .at) (k .rest)))
         (e : goalAnswer (partFrom (m .at) (k .rest)) ≡ NumberLine.Number goal) where
@@ -317,8 +318,9 @@ module _ (formulas clauses : ℕ) (s : List ℕ) where
   steps-whole c t e = rw e refl
 
   pub steps-stopped : (k : ℕ) → numberLineOf (shapedAs (countRefusal 1 mostSteps) (number (valueOf (bytes "steps=") s))) ≡ NumberLine.Refused k
-      → stepsPart formulas clauses s ≡ bad (answer k (stepsAt formulas clauses))
-  steps-stopped k e = steps-at-count (answer k (stepsAt formulas clauses)) (number-bad "steps=" stepsRefusal (stepsAt formulas clauses) s k e)
+      → stepsPart formulas clauses s ≡ bad (refusedAt stepsLine k (stepsAt formulas clauses) s)
+  steps-stopped k e = steps-at-count (refusedAt stepsLine k (stepsAt formulas clauses) s)
+      (number-bad "steps=" stepsRefusal (stepsAt formulas clauses) s k e)
 
 -- The count of steps and the text behind it, as the code has them.
 pub record Steps-counted (formulas clauses : ℕ) (s : List ℕ) : Type 0 where

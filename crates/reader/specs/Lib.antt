@@ -1,5 +1,6 @@
 pub mod Sections
 pub mod Answers
+pub mod Columns
 pub mod Lines
 pub mod Many
 pub mod Stored

@@ -9,19 +9,19 @@ use mathlib.Core.Option.{Option, none, some}
 use borrow.Author.Tests.{leb-true, le-leb, lt-leb, lt-ltb, le-ltb}
 use lib.Dec.{ltb, leb}
 use lib.ListN.{length, getD}
-use Rattle.scope.specs.Call.Answer.{answer}
+use Rattle.scope.specs.Call.Answer.{columnFor}
 use Rattle.scope.specs.Tools.Tests.{never}
 use Rattle.scope.specs.Logic.Form.{both}
 use Rattle.scope.specs.File.Request.{Row}
 use Rattle.scope.specs.File.Bytes.{bytes}
 use Rattle.scope.specs.File.Number.{number}
-use Rattle.scope.specs.File.Line.{Value, val, out, Line, ok, bad, orRefused, shapedAs, placed, line}
+use Rattle.scope.specs.File.Line.{Value, val, out, Line, ok, bad, orRefused, shapedAs, placed, lineStop, line}
 use Rattle.scope.specs.File.Kinds.{Kind, items, ontoFirst, numbers, kindFrom, same, kindRow, itemsRow, rowIn, formKinds, stepKinds}
 use Rattle.scope.specs.File.Text.{numberLine, rowLine}
 use Rattle.scope.specs.File.Refusals.{demand, countRefusal, stepRefusal}
 use Rattle.lines.specs.Parts.{valueOf, restOf, line-parts}
 use Rattle.lines.specs.Values.{Behind, rest-behind}
-use Rattle.lines.specs.Stop.{numberStop}
+use Rattle.scope.specs.File.Stops.{numberStop}
 use Rattle.lines.specs.Answers.{numberAnswer, rowAnswer}
 use Rattle.lines.specs.Operands.{number-some, number-none}
 use Rattle.lines.specs.declared.Number.{Number}
@@ -32,7 +32,7 @@ use Rattle.steps.specs.declared.Step.{Step}
 use Rattle.steps.specs.Steps.{pair, stepFrom, pairOf, pair-back}
 use Rattle.refusals.specs.Rows.{row, step-small, classRefusal}
 use Rattle.reader.specs.Sections.{belowRefusal}
-use Rattle.reader.specs.Answers.{numberLineOf, rowLineOf, stepLineOf}
+use Rattle.reader.specs.Answers.{refusedAt, numberLineOf, rowLineOf, stepLineOf}
 use Rattle.reader.specs.declared.NumberLine.the-variants as NumberLine
 use Rattle.reader.specs.declared.RowLine.the-variants as RowLine
 use Rattle.reader.specs.declared.StepLine.the-variants as StepLine
@@ -144,14 +144,15 @@ no-step = refl
 
 -- What a line gives by its value v, and where the rest begins: no empty value is in shape, so a line that gives a thing is key, value, LF.
 module _ {A : Type 0} (l : Line A) (refusal : A → ℕ) (s v : List ℕ) (part : v ≡ valueOf (l .key) s) (empty : l .shape .thing [] ≡ none) where
-  by-value : (i : ℕ) → line l refusal i s ≡ placed i (shapedAs refusal (l .shape .thing v)) (restOf s)
-  by-value i = line-parts l refusal i s empty ∙ ap (λ t. placed i (shapedAs refusal (l .shape .thing t)) (restOf s)) (sym part)
+  by-value : (i : ℕ) → line l refusal i s ≡ placed i (suc (lineStop l s)) (shapedAs refusal (l .shape .thing v)) (restOf s)
+  by-value i =
+      line-parts l refusal i s empty ∙ ap (λ t. placed i (suc (lineStop l s)) (shapedAs refusal (l .shape .thing t)) (restOf s)) (sym part)
 
   line-ok : (i : ℕ) (a : A) (rest : List ℕ) → rest ≡ restOf s → shapedAs refusal (l .shape .thing v) ≡ val a → line l refusal i s ≡ ok a rest
   unfolding placed
   line-ok i a rest r e = by-value i ∙ rw (e, r) refl
 
-  line-bad : (i k : ℕ) → shapedAs refusal (l .shape .thing v) ≡ out k → line l refusal i s ≡ bad (answer k i)
+  line-bad : (i k : ℕ) → shapedAs refusal (l .shape .thing v) ≡ out k → line l refusal i s ≡ bad (refusedAt l k i s)
   unfolding placed
   line-bad i k e = by-value i ∙ rw e refl
 
@@ -169,7 +170,8 @@ module _ (key : String) (refusal : ℕ → ℕ) (s v : List ℕ) (part : v ≡ v
       → line (numberLine key) refusal i s ≡ ok n rest
   value-ok i rest n r e = line-ok (numberLine key) refusal s v part no-number i n rest r (val-number (shapedAs refusal (number v)) n e)
 
-  pub value-bad : (i k : ℕ) → numberLineOf (shapedAs refusal (number v)) ≡ NumberLine.Refused k → line (numberLine key) refusal i s ≡ bad (answer k i)
+  pub value-bad : (i k : ℕ) → numberLineOf (shapedAs refusal (number v)) ≡ NumberLine.Refused k
+      → line (numberLine key) refusal i s ≡ bad (refusedAt (numberLine key) k i s)
   value-bad i k e = line-bad (numberLine key) refusal s v part no-number i k (out-number (shapedAs refusal (number v)) k e)
 
   pub value-behind : (n : ℕ) → numberLineOf (shapedAs refusal (number v)) ≡ NumberLine.Number n → Behind s (length v + (length (bytes key) + 1))
@@ -180,7 +182,8 @@ pub number-ok : (key : String) (refusal : ℕ → ℕ) (i : ℕ) (s rest : List 
 number-ok key refusal i s rest n r e = value-ok key refusal s (valueOf (bytes key) s) refl i rest n r e
 
 pub number-bad : (key : String) (refusal : ℕ → ℕ) (i : ℕ) (s : List ℕ) (k : ℕ)
-    → numberLineOf (shapedAs refusal (number (valueOf (bytes key) s))) ≡ NumberLine.Refused k → line (numberLine key) refusal i s ≡ bad (answer k i)
+    → numberLineOf (shapedAs refusal (number (valueOf (bytes key) s))) ≡ NumberLine.Refused k
+    → line (numberLine key) refusal i s ≡ bad (refusedAt (numberLine key) k i s)
 number-bad key refusal i s k e = value-bad key refusal s (valueOf (bytes key) s) refl i k e
 
 module _ (key : String) (kinds : List Kind) (refusal : Row → ℕ) (s v : List ℕ) (part : v ≡ valueOf (bytes key) s) (empty : rowIn kinds [] ≡ none) where
@@ -188,7 +191,7 @@ module _ (key : String) (kinds : List Kind) (refusal : Row → ℕ) (s v : List 
       → line (rowLine key kinds) refusal i s ≡ ok (row k l r) rest
   row-ok i rest k l r is e = line-ok (rowLine key kinds) refusal s v part empty i (row k l r) rest is e
 
-  pub row-bad : (i k : ℕ) → shapedAs refusal (rowIn kinds v) ≡ out k → line (rowLine key kinds) refusal i s ≡ bad (answer k i)
+  pub row-bad : (i k : ℕ) → shapedAs refusal (rowIn kinds v) ≡ out k → line (rowLine key kinds) refusal i s ≡ bad (refusedAt (rowLine key kinds) k i s)
   row-bad i k e = line-bad (rowLine key kinds) refusal s v part empty i k e
 
   pub row-behind : (k l r : ℕ) → shapedAs refusal (rowIn kinds v) ≡ val (row k l r) → Behind s (length v + (length (bytes key) + 1))

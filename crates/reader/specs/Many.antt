@@ -10,7 +10,7 @@ use lib.Seq.{drop-at}
 use borrow.Author.Tests.{ltb-true, ltb-false}
 use Rattle.scope.specs.Call.Answer.{Answer}
 use Rattle.scope.specs.Tools.Tests.{never}
-use Rattle.scope.specs.File.Line.{Line, Read, ok, bad, Reader, Cut, parts, uncut, cut, Value, val, out, valued, placed, lineOf, line, strip, andThen, _>>=_, many, done}
+use Rattle.scope.specs.File.Line.{Line, Read, ok, bad, Reader, Cut, parts, uncut, cut, Value, val, out, valued, placed, lineOf, lineStop, line, strip, andThen, _>>=_, many, done}
 use Rattle.lines.specs.Parts.{upTo, cut-found, cut-none, restOf, lineRest}
 
 -- Things read before those that a reading gives.
@@ -99,15 +99,15 @@ done-ends a = record { ends = λ s b rest e. let f : s ≡ rest = cc in rw f (ta
 
 pub line-ends : {A : Type 0} (l : Line A) (refusal : A → ℕ) (i : ℕ) → Ends (line l refusal i)
 unfolding line lineOf placed restOf lineRest
-line-ends {A} l refusal i = record { ends = λ s a rest e. go s a rest (cut 10 s) refl e }
+line-ends {A} l refusal i = record { ends = λ s a rest e. go s a rest (suc (lineStop l s)) (cut 10 s) refl e }
   where
-    last : (s : List ℕ) (a : A) (rest r : List ℕ) (v : Value A) → placed i v r ≡ ok a rest → r ≡ restOf s → Tail rest s
-    last s a rest r (val b) e f = let g : rest ≡ restOf s = cc in rw g (rest-tail s)
-    last s a rest r (out k) e f = never cc
+    last : (s : List ℕ) (a : A) (rest r : List ℕ) (n : ℕ) (v : Value A) → placed i n v r ≡ ok a rest → r ≡ restOf s → Tail rest s
+    last s a rest r n (val b) e f = let g : rest ≡ restOf s = cc in rw g (rest-tail s)
+    last s a rest r n (out k) e f = never cc
 
-    go : (s : List ℕ) (a : A) (rest : List ℕ) (c : Cut) → cut 10 s ≡ c → lineOf l refusal i c ≡ ok a rest → Tail rest s
-    go s a rest uncut f e = never cc
-    go s a rest (parts t r) f e = last s a rest r (valued l refusal (strip (l .key) t)) e (rw f refl)
+    go : (s : List ℕ) (a : A) (rest : List ℕ) (n : ℕ) (c : Cut) → cut 10 s ≡ c → lineOf l refusal i n c ≡ ok a rest → Tail rest s
+    go s a rest n uncut f e = never cc
+    go s a rest n (parts t r) f e = last s a rest r n (valued l refusal (strip (l .key) t)) e (rw f refl)
 
 pub seq-ends : {A B : Type 0} (m : Reader A) (f : A → Reader B) → Ends m → ((a : A) → Ends (f a)) → Ends (_>>=_ m f)
 unfolding _>>=_ andThen

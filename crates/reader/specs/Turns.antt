@@ -6,7 +6,7 @@ use native.Mathlib.Omega.{arith}
 use mathlib.Core.Path.{_≡_, refl, ap, sym, subst, _∙_}
 use mathlib.Core.List.{List, [], _∷_, _++_}
 use lib.ListN.{length, set, replicate, length-append, length-set}
-use Rattle.scope.specs.Call.Answer.{Answer, answer}
+use Rattle.scope.specs.Call.Answer.{Answer}
 use Rattle.scope.specs.File.Bytes.{bytes}
 use Rattle.scope.specs.File.Number.{number}
 use Rattle.scope.specs.File.Request.{Row}
@@ -15,7 +15,7 @@ use Rattle.scope.specs.Call.Tables.{Entry, table, formEntry, policyEntry, stepE
 use Rattle.scope.specs.File.Kinds.{formKinds, stepKinds, rowIn}
 use Rattle.scope.specs.Limits.{versionAt, principalsAt, atomsAt, formulasAt, formAt, clauseAt, stepAt}
 use Rattle.scope.specs.File.Refusals.{rowRefusal, formRefusal, stepRefusal, versionRefusal, principalsRefusal, atomsRefusal, formulasRefusal}
-use Rattle.scope.specs.File.Text.{versionLine, principalsLine, atomsLine, formulasLine}
+use Rattle.scope.specs.File.Text.{versionLine, principalsLine, atomsLine, formulasLine, clauseLine, stepLine}
 use Rattle.scope.specs.File.Reader.{formItem, stepItem}
 use Rattle.common.specs.Answers.{answerOf}
 use Rattle.classes.specs.Class.{policyIn}
@@ -27,7 +27,7 @@ use Rattle.steps.specs.declared.Pair.{Pair}
 use Rattle.steps.specs.Steps.{pairOf}
 use Rattle.refusals.specs.Rows.{row, classRefusal}
 use Rattle.reader.specs.Sections.{Counted, headPart, classedItem}
-use Rattle.reader.specs.Answers.{refusalIs, numberLineOf, rowLineOf, stepLineOf, sectionOf, headCounts, partOf}
+use Rattle.reader.specs.Answers.{refusedAt, numberLineOf, rowLineOf, stepLineOf, sectionOf, headCounts, partOf}
 use Rattle.reader.specs.Lines.{no-form, no-step, out-row, val-row, out-step, Step-row, step-row, row-ok, row-bad, row-behind, value-ok, value-bad, value-behind}
 use Rattle.reader.specs.Many.{onto, many-more, many-stop, many-end, many-start, tail-length, rest-tail}
 use Rattle.reader.specs.Stored.{table-none, form-more, line-more, step-more}
@@ -130,13 +130,13 @@ module _ (classes : List ℕ) (formulas : ℕ) {n : ℕ} {text : List ℕ} {len 
     (k : Turns policyEntry (classedItem classes formulas) n text len numbers s i) (h : i < n)
     (q : Line-asked "clause=" (clauseAsked classes formulas) s) where
   pub clause-stops : {X : List ℕ → List ℕ → Type 0} (j : ℕ) → q .answer ≡ NumberLine.Refused j → (x : Returned)
-      → x ≡ refusalIs j (clauseAt formulas i)
+      → x ≡ answerOf (refusedAt clauseLine j (clauseAt formulas i) s)
       → (Section.Refused x ≡ sectionOf (length text) (many (classedItem classes formulas) n [] text)) ×
       ((policy : List ℕ) (over : List ℕ) → many (classedItem classes formulas) n [] text ≡ ok policy over → X policy over)
   clause-stops j e x d =
-      turn-stops policyEntry (classedItem classes formulas) n text k h (answer j (clauseAt formulas i))
+      turn-stops policyEntry (classedItem classes formulas) n text k h (refusedAt clauseLine j (clauseAt formulas i) s)
       (value-bad "clause=" (classRefusal policyIn classes formulas) s (q .value) (q .part) (clauseAt formulas (length (k .before))) j
-      (sym (q .about) ∙ e) ∙ ap (λ m. bad (answer j (clauseAt formulas m))) (k .count)) x d
+      (sym (q .about) ∙ e) ∙ ap (λ m. bad (refusedAt clauseLine j (clauseAt formulas m) s)) (k .count)) x d
 
   module _ (f : ℕ) (e : q .answer ≡ NumberLine.Number f) where
     pub clause-behind : Behind s (length (q .value) + 8)
@@ -157,14 +157,14 @@ stepAsked v = stepLineOf (shapedAs stepRefusal (rowIn stepKinds v))
 module _ (formulas clauses : ℕ) {n : ℕ} {text : List ℕ} {len : ℕ} {numbers s : List ℕ} {i : ℕ}
     (k : Turns stepEntry (stepItem formulas clauses) n text len numbers s i) (h : i < n) (q : Line-asked "step=" stepAsked s) where
   pub step-stops : {X : List Row → List ℕ → Type 0} (j : ℕ) → q .answer ≡ StepLine.Refused j → (x : Returned)
-      → x ≡ refusalIs j (stepAt formulas clauses (suc i))
+      → x ≡ answerOf (refusedAt stepLine j (stepAt formulas clauses (suc i)) s)
       → (Section.Refused x ≡ sectionOf (length text) (many (stepItem formulas clauses) n [] text)) ×
       ((rows : List Row) (over : List ℕ) → many (stepItem formulas clauses) n [] text ≡ ok rows over → X rows over)
   step-stops j e x d =
       let place : stepAt formulas clauses (suc (length (k .before))) ≡ stepAt formulas clauses (suc i) = omega (arith, k .count) in
-      turn-stops stepEntry (stepItem formulas clauses) n text k h (answer j (stepAt formulas clauses (suc i)))
+      turn-stops stepEntry (stepItem formulas clauses) n text k h (refusedAt stepLine j (stepAt formulas clauses (suc i)) s)
       (row-bad "step=" stepKinds stepRefusal s (q .value) (q .part) no-step (stepAt formulas clauses (suc (length (k .before)))) j
-      (out-step (shapedAs stepRefusal (rowIn stepKinds (q .value))) j (sym (q .about) ∙ e)) ∙ ap (λ m. bad (answer j m)) place) x d
+      (out-step (shapedAs stepRefusal (rowIn stepKinds (q .value))) j (sym (q .about) ∙ e)) ∙ ap (λ m. bad (refusedAt stepLine j m s)) place) x d
 
   module _ (x : Step) (e : q .answer ≡ StepLine.Step x) where
     found : Step-row (rowIn stepKinds (q .value)) x

@@ -38,22 +38,37 @@ pub(crate) fn read_head(text: &[u8]) -> Part
 {
     let version = count_line(text, b"version=", 1, 1);
     let NumberLine::Number(_) = version else {
-        return Part::Refused(crate::number_refused(version, common::version_at()));
+        return Part::Refused(crate::number_refused(
+            version,
+            common::version_at(),
+            text,
+            b"version=",
+        ));
     };
     let second = lines::rest_of(text);
     let principals = count_line(second, b"principals=", 1, common::MOST_PRINCIPALS);
     let NumberLine::Number(p) = principals else {
-        return Part::Refused(crate::number_refused(principals, common::principals_at()));
+        return Part::Refused(crate::number_refused(
+            principals,
+            common::principals_at(),
+            second,
+            b"principals=",
+        ));
     };
     let third = lines::rest_of(second);
     let atoms = count_line(third, b"atoms=", 1, common::MOST_ATOMS);
     let NumberLine::Number(a) = atoms else {
-        return Part::Refused(crate::number_refused(atoms, common::atoms_at()));
+        return Part::Refused(crate::number_refused(atoms, common::atoms_at(), third, b"atoms="));
     };
     let fourth = lines::rest_of(third);
     let formulas = count_line(fourth, b"formulas=", 1, common::MOST_FORMULAS);
     let NumberLine::Number(f) = formulas else {
-        return Part::Refused(crate::number_refused(formulas, common::formulas_at()));
+        return Part::Refused(crate::number_refused(
+            formulas,
+            common::formulas_at(),
+            fourth,
+            b"formulas=",
+        ));
     };
     let rest = lines::rest_of(fourth);
     let at = text.len() - rest.len();

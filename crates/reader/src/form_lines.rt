@@ -75,7 +75,7 @@ fn read_forms(text: &[u8], principals: u16, atoms: u16, formulas: u16, forms: &m
         let got = new_line(value, principals, atoms, i, forms, &mut slots);
         let RowLine::Row(kind, left, right) = got else {
             let place = common::form_at(i);
-            return Section::Refused(crate::row_refused(got, place));
+            return Section::Refused(crate::row_refused(got, place, rest));
         };
         let at = 3 * (i as usize);
         let second = at + 1;

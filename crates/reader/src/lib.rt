@@ -7,15 +7,17 @@ ghost use Rattle.scope.specs.File.Request.{Request};
 ghost use Rattle.scope.specs.File.Reader.{read, readRequest};
 ghost use Rattle.scope.specs.Call.Tables.{table, formEntry, policyEntry, stepEntry};
 ghost use Rattle.scope.specs.Call.Calls.{reading, formTableAfter, policyTableAfter, stepTableAfter};
-ghost use Rattle.scope.specs.Call.Answer.{answer};
+ghost use Rattle.scope.specs.File.Text.{formLine, stepLine};
+ghost use Rattle.columns.specs.Shapes.{numberWith};
 ghost use Rattle.common.specs.Answers.{answerOf};
-ghost use Rattle.reader.specs.Answers.{numberRefusal, rowRefused, stepRefused, sectionRefused, partRefused, readingOf};
+ghost use Rattle.reader.specs.Answers.{refusedAt, numberRefusal, rowRefused, stepRefused, sectionRefused, partRefused, readingOf};
 use common::Answer;
 use common::Counts;
 use steps::Step;
 
 mod first_lines;
 mod form_lines;
+mod line_columns;
 mod policy_lines;
 mod step_lines;
 
@@ -54,39 +56,56 @@ enum Part {
     Refused(Answer),
 }
 
-// The refusal of a line at its place. Each of these is called on a refusal alone: nothing reaches the other case, which gives number 0.
-fn number_refused(line: NumberLine, place: u32) -> Answer
-    ensures { λ r. ⌜ r ≡ answerOf (answer (numberRefusal line) place) ⌝ }
+// The refusal of a line at its place, and its column in the text that begins there. Each of these is called on a refusal alone: nothing
+// reaches the other case, which gives number 0.
+fn number_refused(line: NumberLine, place: u32, text: &[u8], key: &[u8]) -> Answer
+    requires { ⌜ length (now key) ≤ 11 ⌝ }
+    ensures { λ r. ⌜ r ≡ answerOf (refusedAt (numberWith (now (key .entry))) (numberRefusal line) place (now (text .entry))) ⌝ }
 {
     match line {
-        NumberLine::Number(_) => Answer { refusal: 0, place },
+        NumberLine::Number(_) => Answer {
+            refusal: 0,
+            place,
+            column: 0,
+        },
         NumberLine::Refused(number) => Answer {
             refusal: number,
             place,
+            column: line_columns::number_column(number, text, key),
         },
     }
 }
 
-fn row_refused(line: RowLine, place: u32) -> Answer
-    ensures { λ r. ⌜ r ≡ answerOf (answer (rowRefused line) place) ⌝ }
+fn row_refused(line: RowLine, place: u32, text: &[u8]) -> Answer
+    ensures { λ r. ⌜ r ≡ answerOf (refusedAt formLine (rowRefused line) place (now (text .entry))) ⌝ }
 {
     match line {
-        RowLine::Row(_, _, _) => Answer { refusal: 0, place },
+        RowLine::Row(_, _, _) => Answer {
+            refusal: 0,
+            place,
+            column: 0,
+        },
         RowLine::Refused(number) => Answer {
             refusal: number,
             place,
+            column: line_columns::form_column(number, text),
         },
     }
 }
 
-fn step_refused(line: StepLine, place: u32) -> Answer
-    ensures { λ r. ⌜ r ≡ answerOf (answer (stepRefused line) place) ⌝ }
+fn step_refused(line: StepLine, place: u32, text: &[u8]) -> Answer
+    ensures { λ r. ⌜ r ≡ answerOf (refusedAt stepLine (stepRefused line) place (now (text .entry))) ⌝ }
 {
     match line {
-        StepLine::Step(_) => Answer { refusal: 0, place },
+        StepLine::Step(_) => Answer {
+            refusal: 0,
+            place,
+            column: 0,
+        },
         StepLine::Refused(number) => Answer {
             refusal: number,
             place,
+            column: line_columns::step_column(number, text),
         },
     }
 }
@@ -98,6 +117,7 @@ fn section_refused(section: Section) -> Answer
         Section::Read(_) => Answer {
             refusal: 0,
             place: 0,
+            column: 0,
         },
         Section::Refused(answer) => answer,
     }
@@ -110,6 +130,7 @@ fn part_refused(part: Part) -> Answer
         Part::Read(_, _) => Answer {
             refusal: 0,
             place: 0,
+            column: 0,
         },
         Part::Refused(answer) => answer,
     }
@@ -149,7 +170,11 @@ fn read_parts(text: &[u8], forms: &mut [u16], policy: &mut [u16], steps: &mut [u
     };
     if end < third.len() {
         let place = common::end_at(counts.formulas, counts.policy, counts.steps);
-        return Reading::Refused(Answer { refusal: 6, place });
+        return Reading::Refused(Answer {
+            refusal: 6,
+            place,
+            column: 0,
+        });
     }
     Reading::Read(counts)
 }
@@ -174,12 +199,14 @@ pub fn read_request(
         return Reading::Refused(Answer {
             refusal: 13,
             place: 0,
+            column: 0,
         });
     }
     if common::MOST_BYTES < text.len() {
         return Reading::Refused(Answer {
             refusal: 1,
             place: 0,
+            column: 0,
         });
     }
     let got = read_parts(text, forms, policy, steps);

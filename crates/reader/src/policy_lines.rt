@@ -81,7 +81,7 @@ fn read_clauses(
         let got = clause_line(value, formulas, classes);
         let NumberLine::Number(f) = got else {
             let place = common::clause_at(formulas, i);
-            return Section::Refused(crate::number_refused(got, place));
+            return Section::Refused(crate::number_refused(got, place, rest, b"clause="));
         };
         let at = i as usize;
         policy[at] = f;
@@ -102,7 +102,7 @@ pub(crate) fn read_policy(text: &[u8], counts: Counts, forms: &[u16], policy: &m
     let count = crate::first_lines::count_line(text, b"clauses=", 0, common::MOST_POLICY_LINES);
     let NumberLine::Number(clauses) = count else {
         let place = common::clauses_at(counts.formulas);
-        return Part::Refused(crate::number_refused(count, place));
+        return Part::Refused(crate::number_refused(count, place, text, b"clauses="));
     };
     let second = lines::rest_of(text);
     let classes = classes::classes_of(forms, counts.formulas);
@@ -114,7 +114,7 @@ pub(crate) fn read_policy(text: &[u8], counts: Counts, forms: &[u16], policy: &m
     let last = goal_line(third, counts.formulas, &classes);
     let NumberLine::Number(goal) = last else {
         let place = common::goal_at(counts.formulas, clauses);
-        return Part::Refused(crate::number_refused(last, place));
+        return Part::Refused(crate::number_refused(last, place, third, b"goal="));
     };
     let rest = lines::rest_of(third);
     let taken = text.len() - rest.len();

@@ -49,7 +49,7 @@ fn read_steps(text: &[u8], formulas: u16, clauses: u16, count: u16, steps: &mut 
         let got = step_line(value);
         let StepLine::Step(step) = got else {
             let place = common::step_at(formulas, clauses, i);
-            return Section::Refused(crate::step_refused(got, place));
+            return Section::Refused(crate::step_refused(got, place, rest));
         };
         let pair = steps::pair_of(step);
         let at = 2 * (i as usize);
@@ -73,7 +73,7 @@ pub(crate) fn read_proof(text: &[u8], counts: Counts, steps: &mut [u16]) -> Part
     let line = crate::first_lines::count_line(text, b"steps=", 1, common::MOST_STEPS);
     let NumberLine::Number(count) = line else {
         let place = common::steps_at(counts.formulas, counts.policy);
-        return Part::Refused(crate::number_refused(line, place));
+        return Part::Refused(crate::number_refused(line, place, text, b"steps="));
     };
     let rest = lines::rest_of(text);
     let got = read_steps(rest, counts.formulas, counts.policy, count, steps);

@@ -119,7 +119,7 @@ pub record ForGood (c : Case) : Type 0 where
 
 -- Case P i of the twelve.
 abbrev pub caseOf : ℕ → Case
-caseOf i = getD twelve (i - 1) (case "" (prints 0 0 0))
+caseOf i = getD twelve (i - 1) (case "" (prints 0 0 0 0))
 
 requestIn-case : ℕ → Request
 requestIn-case i = requestIn (readRequest (bytes (caseOf i .text)))

@@ -1,5 +1,5 @@
 // Judges framed requests from standard input to its end: a frame is the file's length, four bytes
-// and the lowest first, then that many bytes. Each gives a line `answer place steps`.
+// and the lowest first, then that many bytes. Each gives a line `answer place steps column`.
 //
 // A frame has at most 70,000 bytes, and the gate is handed at most 65,537 of them: one more than a
 // request may have tells it enough. A longer frame, or one that the input's end cuts short, ends the
@@ -67,6 +67,8 @@ fn answer_file(file: &[u8]) -> bool {
     io::print_decimal(1, wide32(r.place));
     io::write_all(1, b" ");
     io::print_decimal(1, wide16(r.steps));
+    io::write_all(1, b" ");
+    io::print_decimal(1, wide16(r.column));
     io::write_all(1, b"\n")
 }
 

@@ -3,7 +3,7 @@ use Prim.Native.Nat.{ℕ, zero, suc}
 use mathlib.Core.Path.{_≡_, refl, _∙_}
 use mathlib.Core.List.{List, [], _∷_, _++_}
 use lib.ListN.{length}
-use Rattle.scope.specs.Call.Answer.{Answer, answer}
+use Rattle.scope.specs.Call.Answer.{Answer, told, answer}
 use Rattle.scope.specs.File.Request.{Request}
 use Rattle.scope.specs.Call.Checked.{firstMet, eachOf, lineAnswers}
 use Rattle.scope.specs.Tools.Tests.{never}
@@ -27,21 +27,21 @@ passes k place more e = rw e refl
 pub met-apart : (xs ys : List Answer) → firstMet (xs ++ ys) ≡ answer 0 0 → Two (firstMet xs ≡ answer 0 0) (firstMet ys ≡ answer 0 0)
 unfolding firstMet
 met-apart [] ys e = two refl e
-met-apart (answer zero p ∷ xs) ys e = met-apart xs ys e
-met-apart (answer (suc k) p ∷ xs) ys e = never cc
+met-apart (told zero p c ∷ xs) ys e = met-apart xs ys e
+met-apart (told (suc k) p c ∷ xs) ys e = never cc
 
 pub passes-all : (xs ys : List Answer) → firstMet xs ≡ answer 0 0 → firstMet (xs ++ ys) ≡ firstMet ys
 unfolding firstMet
 passes-all [] ys e = refl
-passes-all (answer zero p ∷ xs) ys e = passes-all xs ys e
-passes-all (answer (suc k) p ∷ xs) ys e = never cc
+passes-all (told zero p c ∷ xs) ys e = passes-all xs ys e
+passes-all (told (suc k) p c ∷ xs) ys e = never cc
 
--- Where no refusal is met, the place is 0.
-pub met-nothing : (xs : List Answer) (place : ℕ) → firstMet xs ≡ answer 0 place → firstMet xs ≡ answer 0 0
+-- Where no refusal is met, place and column are 0.
+pub met-nothing : (xs : List Answer) (place column : ℕ) → firstMet xs ≡ told 0 place column → firstMet xs ≡ answer 0 0
 unfolding firstMet
-met-nothing [] place e = refl
-met-nothing (answer zero p ∷ xs) place e = met-nothing xs place e
-met-nothing (answer (suc k) p ∷ xs) place e = never cc
+met-nothing [] place column e = refl
+met-nothing (told zero p c ∷ xs) place column e = met-nothing xs place column e
+met-nothing (told (suc k) p c ∷ xs) place column e = never cc
 
 module _ {A : Type 0} (refusal : List A → A → ℕ) (place : List A → ℕ) where
   each-met :

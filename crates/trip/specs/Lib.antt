@@ -15,6 +15,7 @@ pub mod Entries
 pub mod Trip
 pub mod Refused
 pub mod LineRefusals
+pub mod LineStops
 pub mod LinePlaces
 pub mod Places
 pub mod Statements

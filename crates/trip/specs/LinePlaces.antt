@@ -8,11 +8,12 @@ use mathlib.Core.Option.{Option, none, some}
 use native.Mathlib.Omega.{arith}
 use lib.Dec.{eqb}
 use lib.ListN.{length, length-append}
-use Rattle.scope.specs.Call.Answer.{answer}
-use Rattle.scope.specs.File.Line.{Line, Value, val, out, Read, ok, bad, Reader, Cut, parts, uncut, cut, cutAfter, strip, orRefused, shapedAs, valued, placed, lineOf, line, andThen, _>>=_, done, many, counted}
+use Rattle.scope.specs.Call.Answer.{told, columnFor}
+use Rattle.scope.specs.File.Line.{Line, Value, val, out, Read, ok, bad, Reader, Cut, parts, uncut, cut, cutAfter, strip, orRefused, shapedAs, valued, placed, lineOf, lineStop, line, andThen, _>>=_, done, many, counted}
 use Rattle.scope.specs.Tools.Tests.{never}
 use Rattle.trip.specs.Cuts.{free, free-cons, free-one, cut-there, cut-back}
-use Rattle.trip.specs.LineRefusals.{OfLine, shape, in-shape, Mild}
+use Rattle.trip.specs.LineRefusals.{OfLine, shape, in-shape, Mild, mild-column, shape-column}
+use Rattle.trip.specs.LineStops.{OwnLine}
 
 -- How many LFs stand in a text.
 unfoldable pub lfs : List ℕ → ℕ
@@ -25,7 +26,7 @@ whole [] = true
 whole (b ∷ []) = eqb b 10
 whole (b ∷ c ∷ s) = whole (c ∷ s)
 
-lfs-append : (s t : List ℕ) → lfs (s ++ t) ≡ lfs s + lfs t
+pub lfs-append : (s t : List ℕ) → lfs (s ++ t) ≡ lfs s + lfs t
 unfolding lfs
 lfs-append [] t = omega arith
 lfs-append (b ∷ s) t = go (eqb b 10) (lfs-append s t)
@@ -34,18 +35,18 @@ lfs-append (b ∷ s) t = go (eqb b 10) (lfs-append s t)
     go true ih = omega arith
     go false ih = ih
 
-whole-append : (s t : List ℕ) → whole s ≡ true → whole t ≡ true → whole (s ++ t) ≡ true
+pub whole-append : (s t : List ℕ) → whole s ≡ true → whole t ≡ true → whole (s ++ t) ≡ true
 unfolding whole
 whole-append [] t p q = q
 whole-append (b ∷ []) [] p q = p
 whole-append (b ∷ []) (c ∷ t) p q = q
 whole-append (b ∷ c ∷ s) t p q = whole-append (c ∷ s) t p q
 
-nothing-whole : whole [] ≡ true
+pub nothing-whole : whole [] ≡ true
 unfolding whole
 nothing-whole = refl
 
-no-lf : lfs [] ≡ 0
+pub no-lf : lfs [] ≡ 0
 unfolding lfs
 no-lf = refl
 
@@ -86,54 +87,56 @@ pub record Gone {A : Type 0} (m : Reader A) (i : ℕ) (end : A → ℕ) (s : Lis
   pub stands : end a ≡ i + lfs gone
   pub whatever : (t : List ℕ) → m (gone ++ t) ≡ ok a t
 
-pub record Stopped {A : Type 0} (m : Reader A) (i : ℕ) (s : List ℕ) (k j : ℕ) : Type 0 where
+pub record Stopped {A : Type 0} (m : Reader A) (i : ℕ) (s : List ℕ) (k j column : ℕ) : Type 0 where
   pub before : List ℕ
   pub rest : List ℕ
   pub parted : s ≡ before ++ rest
   pub lines : whole before ≡ true
   pub place : j ≡ i + lfs before
-  pub number : OfLine k
-  pub short : m before ≡ bad (answer 2 j)
-  pub whatever : (l r : List ℕ) → cut 10 rest ≡ parts l r → (t : List ℕ) → m (before ++ (l ++ 10 ∷ t)) ≡ bad (answer k j)
+  pub number : OfLine k column
+  pub short : m before ≡ bad (told 2 j 1)
+  pub whatever : (l r : List ℕ) → cut 10 rest ≡ parts l r → (t : List ℕ) → m (before ++ (l ++ 10 ∷ t)) ≡ bad (told k j column)
 
 pub record From {A : Type 0} (i : ℕ) (end : A → ℕ) (m : Reader A) : Type 0 where
   pub goes : (s : List ℕ) (a : A) (rest : List ℕ) → m s ≡ ok a rest → Gone m i end s a rest
-  pub stops : (s : List ℕ) (k j : ℕ) → m s ≡ bad (answer k j) → Stopped m i s k j
+  pub stops : (s : List ℕ) (k j column : ℕ) → m s ≡ bad (told k j column) → Stopped m i s k j column
 
 -- One line.
-settled-mild : {A : Type 0} (n : ℕ) (a : A) (k : ℕ) → Mild n → orRefused n a ≡ out k → OfLine k
+settled-mild : {A : Type 0} (n : ℕ) (a : A) (k c : ℕ) → Mild n → orRefused n a ≡ out k → OfLine k (columnFor k (suc c))
 unfolding orRefused
-settled-mild zero a k h e = never cc
-settled-mild (suc n) a k h e =
+settled-mild zero a k c h e = never cc
+settled-mild (suc n) a k c h e =
     let z : suc n ≡ k = cc in
-    rw z at (in-shape (h (omega arith)))
+    rw z at (in-shape (h (omega arith)) (mild-column n (suc c) h))
 
-module _ {A : Type 0} (l : Line A) (refusal : A → ℕ) (mild : (a : A) → Mild (refusal a)) (i : ℕ) where
-  shaped-mild : (x : Option A) (k : ℕ) → shapedAs refusal x ≡ out k → OfLine k
+module _ {A : Type 0} (l : Line A) (own : OwnLine l) (refusal : A → ℕ) (mild : (a : A) → Mild (refusal a)) (i : ℕ) where
+  shaped-mild : (x : Option A) (k c : ℕ) → shapedAs refusal x ≡ out k → OfLine k (columnFor k (suc c))
   unfolding shapedAs
-  shaped-mild none k e = shape (cc)
-  shaped-mild (some a) k e = settled-mild (refusal a) a k (mild a) e
+  shaped-mild none k c e = shape-column k c (cc)
+  shaped-mild (some a) k c e = settled-mild (refusal a) a k c (mild a) e
 
-  valued-mild : (x : Option (List ℕ)) (k : ℕ) → valued l refusal x ≡ out k → OfLine k
+  valued-mild : (x : Option (List ℕ)) (k c : ℕ) → valued l refusal x ≡ out k → OfLine k (columnFor k (suc c))
   unfolding valued
-  valued-mild none k e = shape (cc)
-  valued-mild (some v) k e = shaped-mild (l .shape .thing v) k e
+  valued-mild none k c e = shape-column k c (cc)
+  valued-mild (some v) k c e = shaped-mild (l .shape .thing v) k c e
 
-  line-cut : (x t : List ℕ) → free 10 x ≡ true → line l refusal i (x ++ 10 ∷ t) ≡ placed i (valued l refusal (strip (l .key) x)) t
+  -- A line whole, whatever stood or stands behind its LF.
+  line-cut : (x t r : List ℕ) → free 10 x ≡ true →
+      line l refusal i (x ++ 10 ∷ t) ≡ placed i (suc (lineStop l (x ++ 10 ∷ r))) (valued l refusal (strip (l .key) x)) t
   unfolding line lineOf
-  line-cut x t f = rw (cut-there 10 x t f)
+  line-cut x t r f = rw (cut-there 10 x t f, own .own x t r f)
 
-  line-missing : line l refusal i [] ≡ bad (answer 2 i)
+  pub line-missing : line l refusal i [] ≡ bad (told 2 i 1)
   unfolding line lineOf cut
-  line-missing = refl
+  line-missing = rw (own .missing)
 
-  line-goes : (s : List ℕ) (a : A) (rest : List ℕ) (c : Cut) → cut 10 s ≡ c → lineOf l refusal i c ≡ ok a rest →
+  line-goes : (s : List ℕ) (a : A) (rest : List ℕ) (n : ℕ) (c : Cut) → cut 10 s ≡ c → lineOf l refusal i n c ≡ ok a rest →
       Gone (line l refusal i) i (λ a. suc i) s a rest
   unfolding lineOf placed
-  line-goes s a rest uncut d e = never cc
-  line-goes s a rest (parts x r) d e = go (valued l refusal (strip (l .key) x)) refl e
+  line-goes s a rest n uncut d e = never cc
+  line-goes s a rest n (parts x r) d e = go (valued l refusal (strip (l .key) x)) refl e
     where
-      go : (v : Value A) → valued l refusal (strip (l .key) x) ≡ v → placed i v r ≡ ok a rest → Gone (line l refusal i) i (λ a. suc i) s a rest
+      go : (v : Value A) → valued l refusal (strip (l .key) x) ≡ v → placed i n v r ≡ ok a rest → Gone (line l refusal i) i (λ a. suc i) s a rest
       go (out k) g e′ = never cc
       go (val b) g e′ =
           let z : b ≡ a = cc in
@@ -144,31 +147,35 @@ module _ {A : Type 0} (l : Line A) (refusal : A → ℕ) (mild : (a : A) → Mil
             parted = cut-back 10 s x r d ∙ ap (λ u. x ++ 10 ∷ u) y ∙ sym (append-assoc x (10 ∷ []) rest);
             lines = whole-line x;
             stands = omega (arith, one-lf x f);
-            whatever = λ t. rw (append-assoc x (10 ∷ []) t, line-cut x t f, g, z);
+            whatever = λ t. rw (append-assoc x (10 ∷ []) t, line-cut x t r f, g, z);
           }
 
-  line-stops : (s : List ℕ) (k j : ℕ) (c : Cut) → cut 10 s ≡ c → lineOf l refusal i c ≡ bad (answer k j) → Stopped (line l refusal i) i s k j
+  line-stops : (s : List ℕ) (k j column : ℕ) (c : Cut) → cut 10 s ≡ c → lineOf l refusal i (suc (lineStop l s)) c ≡ bad (told k j column) →
+      Stopped (line l refusal i) i s k j column
   unfolding lineOf placed
-  line-stops s k j uncut d e =
+  line-stops s k j column uncut d e =
       let z : k ≡ 2 = cc in
       let y : i ≡ j = cc in
+      let w : suc (lineStop l s) ≡ column = cc in
       record {
         before = [];
         rest = s;
         parted = refl;
         lines = nothing-whole;
         place = omega (arith, no-lf);
-        number = shape z;
-        short = line-missing ∙ ap (λ n. bad (answer 2 n)) y;
+        number = shape z (omega arith);
+        short = line-missing ∙ ap (λ n. bad (told 2 n 1)) y;
         whatever = λ x r g t. never cc;
       }
-  line-stops s k j (parts x r) d e = go (valued l refusal (strip (l .key) x)) refl e
+  line-stops s k j column (parts x r) d e = go (valued l refusal (strip (l .key) x)) refl e
     where
-      go : (v : Value A) → valued l refusal (strip (l .key) x) ≡ v → placed i v r ≡ bad (answer k j) → Stopped (line l refusal i) i s k j
+      go : (v : Value A) → valued l refusal (strip (l .key) x) ≡ v → placed i (suc (lineStop l s)) v r ≡ bad (told k j column) →
+          Stopped (line l refusal i) i s k j column
       go (val a) g e′ = never cc
       go (out n) g e′ =
           let z : n ≡ k = cc in
           let y : i ≡ j = cc in
+          let w : columnFor n (suc (lineStop l s)) ≡ column = cc in
           let f = cut-free 10 s x r d in
           record {
             before = [];
@@ -176,18 +183,19 @@ module _ {A : Type 0} (l : Line A) (refusal : A → ℕ) (mild : (a : A) → Mil
             parted = refl;
             lines = nothing-whole;
             place = omega (arith, no-lf);
-            number = rw z at (valued-mild (strip (l .key) x) n g);
-            short = line-missing ∙ ap (λ n. bad (answer 2 n)) y;
+            number = rw (w, z) at (valued-mild (strip (l .key) x) n (lineStop l s) g);
+            short = line-missing ∙ ap (λ n. bad (told 2 n 1)) y;
             whatever =
                 λ u r′ h t.
-                let w : x ≡ u = cc in
-                rw (sym w, line-cut x t f, g, z, y);
+                let v : x ≡ u = cc in
+                let b : lineStop l s ≡ lineStop l (x ++ 10 ∷ r) = ap (lineStop l) (cut-back 10 s x r d) in
+                rw (sym v, line-cut x t r f, g, ← b, w, z, y);
           }
 
   pub line-from : From i (λ a. suc i) (line l refusal i)
   unfolding line
   line-from =
-      record { goes = λ s a rest e. line-goes s a rest (cut 10 s) refl e; stops = λ s k j e. line-stops s k j (cut 10 s) refl e }
+      record { goes = λ s a rest e. line-goes s a rest (suc (lineStop l s)) (cut 10 s) refl e; stops = λ s k j c e. line-stops s k j c (cut 10 s) refl e }
 
 -- One after the other: the second begins where the first ends.
 module _ {A B : Type 0} {i : ℕ} {end : A → ℕ} {last : B → ℕ} {m : Reader A} {next : A → Reader B}
@@ -206,12 +214,14 @@ module _ {A B : Type 0} {i : ℕ} {end : A → ℕ} {last : B → ℕ} {m : Read
         whatever = λ t. rw (append-assoc (p .gone) (q .gone) t, p .whatever (q .gone ++ t)) (q .whatever t);
       }
 
-  then-stops : (s : List ℕ) (k j : ℕ) (x : Read A) → m s ≡ x → andThen x next ≡ bad (answer k j) → Stopped (_>>=_ m next) i s k j
+  then-stops : (s : List ℕ) (k j column : ℕ) (x : Read A) → m s ≡ x → andThen x next ≡ bad (told k j column) →
+      Stopped (_>>=_ m next) i s k j column
   unfolding andThen _>>=_
-  then-stops s k j (bad (answer n h)) d e =
+  then-stops s k j column (bad (told n h c)) d e =
       let y : n ≡ k = cc in
       let z : h ≡ j = cc in
-      let p = f .stops s k j (cc (d, y, z)) in
+      let x : c ≡ column = cc in
+      let p = f .stops s k j column (cc (d, y, z, x)) in
       record {
         before = p .before;
         rest = p .rest;
@@ -222,9 +232,9 @@ module _ {A B : Type 0} {i : ℕ} {end : A → ℕ} {last : B → ℕ} {m : Read
         short = rw (p .short) refl;
         whatever = λ l r c t. rw (p .whatever l r c t) refl;
       }
-  then-stops s k j (ok a mid) d e =
+  then-stops s k j column (ok a mid) d e =
       let p = f .goes s a mid d in
-      let q = g a .stops mid k j e in
+      let q = g a .stops mid k j column e in
       record {
         before = p .gone ++ q .before;
         rest = q .rest;
@@ -242,7 +252,7 @@ module _ {A B : Type 0} {i : ℕ} {end : A → ℕ} {last : B → ℕ} {m : Read
   pub then-from : From i last (_>>=_ m next)
   unfolding _>>=_
   then-from =
-      record { goes = λ s b rest e. then-goes s b rest (m s) refl e; stops = λ s k j e. then-stops s k j (m s) refl e }
+      record { goes = λ s b rest e. then-goes s b rest (m s) refl e; stops = λ s k j c e. then-stops s k j c (m s) refl e }
 
 -- Nothing more is read.
 pub done-from : {A : Type 0} (a : A) (i : ℕ) (end : A → ℕ) → end a ≡ i → From i end (done a)
@@ -259,7 +269,7 @@ done-from a i end h =
             stands = rw (sym z) (omega (arith, no-lf));
             whatever = λ t. ap (λ x. ok x t) z;
           };
-      stops = λ s k j e. never cc;
+      stops = λ s k j c e. never cc;
     }
 
 -- The same places by other names.
@@ -288,9 +298,9 @@ module _ {A : Type 0} (item : List A → Reader A) (i : ℕ) (each : (before : L
       done-from (a ∷ more) (i + length (before ++ (a ∷ [])) + length more) _ (omega arith))
 
 -- A count and that many things.
-pub counted-from : {A : Type 0} (l : Line ℕ) (refusal : ℕ → ℕ) → ((n : ℕ) → Mild (refusal n)) → (i : ℕ) (item : List A → Reader A) →
+pub counted-from : {A : Type 0} (l : Line ℕ) → OwnLine l → (refusal : ℕ → ℕ) → ((n : ℕ) → Mild (refusal n)) → (i : ℕ) (item : List A → Reader A) →
     ((before : List A) → From (suc i + length before) (λ a. suc (suc i + length before)) (item before)) →
     From i (λ xs. suc i + length xs) (counted l refusal i item)
 unfolding counted
-counted-from l refusal mild i item each =
-    then-from (line-from l refusal mild i) λ n. from-as (omega arith) (λ xs. omega arith) (many-from item (suc i) each n [])
+counted-from l own refusal mild i item each =
+    then-from (line-from l own refusal mild i) λ n. from-as (omega arith) (λ xs. omega arith) (many-from item (suc i) each n [])

@@ -7,6 +7,7 @@ use native.Mathlib.Omega.{arith}
 use lib.Dec.{leb, ltb}
 use lib.ListN.{length}
 use Rattle.scope.specs.Logic.Form.{both, negate}
+use Rattle.scope.specs.Call.Answer.{columnFor}
 use Rattle.scope.specs.File.Request.{Row, policyClass, goalClass}
 use Rattle.scope.specs.File.Kinds.{Kind, kindIn, operandsOf, formKinds, stepKinds}
 use Rattle.scope.specs.File.Refusals.{demand, inRange, isEarlier, pass, restZero, countRefusal, rowRefusal, isAmong, firstOf, formRefusal, stepRefusal, clauseRefusal, goalRefusal}
@@ -18,13 +19,29 @@ pub data InShape (k : ℕ) : Type 0 where
   twice : k ≡ 15 → InShape k
   class : k ≡ 5 → InShape k
 
-pub data OfLine (k : ℕ) : Type 0 where
-  shape : k ≡ 2 → OfLine k
-  in-shape : InShape k → OfLine k
+-- With the column: from 1 where the line is out of shape, else 0.
+pub data OfLine (k column : ℕ) : Type 0 where
+  shape : k ≡ 2 → 0 < column → OfLine k column
+  in-shape : InShape k → column ≡ 0 → OfLine k column
 
 -- A refusal of a line in shape, where it has one.
 abbrev pub Mild : ℕ → Type 0
 Mild n = 0 < n → InShape n
+
+-- It has no column.
+shaped-column : (k column : ℕ) → InShape k → columnFor k column ≡ 0
+unfolding columnFor
+shaped-column k column (range e) = rw e refl
+shaped-column k column (later e) = rw e refl
+shaped-column k column (twice e) = rw e refl
+shaped-column k column (class e) = rw e refl
+
+pub mild-column : (k column : ℕ) → Mild (suc k) → columnFor (suc k) column ≡ 0
+mild-column k column m = shaped-column (suc k) column (m (omega arith))
+
+pub shape-column : (k column : ℕ) → k ≡ 2 → OfLine k (columnFor k (suc column))
+unfolding columnFor
+shape-column k column e = shape e (rw e (omega arith))
 
 mild-none : Mild 0
 mild-none h = absurd (omega arith)

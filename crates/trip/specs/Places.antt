@@ -8,8 +8,10 @@ use mathlib.Core.Bool.{true}
 use native.Mathlib.Omega.{arith}
 use lib.ListN.{length}
 use Rattle.scope.specs.File.Request.{Request}
-use Rattle.scope.specs.Call.Answer.{answer}
-use Rattle.scope.specs.File.Line.{Read, ok, bad, parts, cut}
+use Rattle.scope.specs.Call.Answer.{told}
+use Rattle.scope.specs.File.Line.{Read, ok, bad, parts, cut, lineStop}
+use Rattle.scope.specs.File.Stops.{byteStop, wordStop}
+use Rattle.scope.specs.File.Kinds.{formKinds, stepKinds}
 use Rattle.scope.specs.File.Refusals.{versionRefusal, principalsRefusal, atomsRefusal, formulasRefusal, formRefusal, clausesRefusal, clauseRefusal, goalRefusal, stepsRefusal, stepRefusal}
 use Rattle.scope.specs.File.Text.{versionLine, principalsLine, atomsLine, formulasLine, formLine, clausesLine, clauseLine, goalLine, stepsLine, stepLine}
 use Rattle.scope.specs.File.Reader.{read, refused, formItem, clauseItem, stepItem, requestLines, ended, readRequest}
@@ -17,6 +19,9 @@ use Rattle.scope.specs.Limits.{mostPrincipals, mostAtoms, mostFormulas, mostPol
 use Rattle.scope.specs.Limits.{versionAt, principalsAt, atomsAt, formulasAt, formAt, clausesAt, clauseAt, goalAt, stepsAt, stepAt, endAt}
 use Rattle.scope.specs.Tools.Tests.{never}
 use Rattle.trip.specs.LineRefusals.{OfLine, count-mild, form-mild, clause-mild, goal-mild, step-mild}
+use Rattle.trip.specs.Cuts.{free}
+use Rattle.trip.specs.Words.{form-kinds-neat, step-kinds-neat}
+use Rattle.trip.specs.LineStops.{number-own, row-own}
 use Rattle.trip.specs.LinePlaces.{lfs, whole, From, line-from, then-from, done-from, from-as, counted-from}
 
 -- A text parted before its line i.
@@ -27,56 +32,57 @@ pub record Before (s : List ℕ) (i : ℕ) : Type 0 where
   pub lines : whole before ≡ true
   pub place : i ≡ suc (lfs before)
 
--- What a refusal k at line i says of a text.
-pub data Where (s : List ℕ) (k i : ℕ) : Type 0 where
+-- What a refusal k at line i, with a column, says of a text.
+pub data Where (s : List ℕ) (k i column : ℕ) : Type 0 where
   -- of the line: cut off before it, the text is short of just that line; and whatever stands behind its LF, the refusal is the same
   of-line :
-      (b : Before s i) → OfLine k → readRequest (b .before) ≡ refused (answer 2 i) →
-      ((l r : List ℕ) → cut 10 (b .rest) ≡ parts l r → (t : List ℕ) → readRequest (b .before ++ (l ++ 10 ∷ t)) ≡ refused (answer k i)) →
-      Where s k i
+      (b : Before s i) → OfLine k column → readRequest (b .before) ≡ refused (told 2 i 1) →
+      ((l r : List ℕ) → cut 10 (b .rest) ≡ parts l r → (t : List ℕ) → readRequest (b .before ++ (l ++ 10 ∷ t)) ≡ refused (told k i column)) →
+      Where s k i column
   -- of what follows the last step: cut off before it, the text reads
-  of-rest : (b : Before s i) (q : Request) → k ≡ 6 → readRequest (b .before) ≡ read q → Where s k i
+  of-rest : (b : Before s i) (q : Request) → k ≡ 6 → column ≡ 0 → readRequest (b .before) ≡ read q → Where s k i column
 
 -- The lines of a request, from the first on; behind them stands the line that `endAt` names.
 request-from : From versionAt (λ (q : Request). endAt (length (q .forms)) (length (q .policy)) (length (q .steps))) requestLines
-unfolding requestLines
+unfolding requestLines lineStop wordStop byteStop free
 request-from =
-    then-from (line-from versionLine versionRefusal (count-mild 1 1) versionAt) λ version.
-    then-from (line-from principalsLine principalsRefusal (count-mild 1 mostPrincipals) principalsAt) λ principals.
-    then-from (line-from atomsLine atomsRefusal (count-mild 1 mostAtoms) atomsAt) λ atoms.
+    then-from (line-from versionLine (number-own "version=" refl refl) versionRefusal (count-mild 1 1) versionAt) λ version.
+    then-from (line-from principalsLine (number-own "principals=" refl refl) principalsRefusal (count-mild 1 mostPrincipals) principalsAt) λ principals.
+    then-from (line-from atomsLine (number-own "atoms=" refl refl) atomsRefusal (count-mild 1 mostAtoms) atomsAt) λ atoms.
     then-from
-    (counted-from formulasLine formulasRefusal (count-mild 1 mostFormulas) formulasAt (formItem principals atoms) λ before.
-    line-from formLine (formRefusal principals atoms before) (form-mild principals atoms before) (formAt (length before))) λ forms.
+    (counted-from formulasLine (number-own "formulas=" refl refl) formulasRefusal (count-mild 1 mostFormulas) formulasAt (formItem principals atoms) λ before.
+    line-from formLine (row-own "form=" formKinds refl form-kinds-neat refl) (formRefusal principals atoms before) (form-mild principals atoms before) (formAt (length before))) λ forms.
     then-from
-    (counted-from clausesLine clausesRefusal (count-mild 0 mostPolicyLines) (clausesAt (length forms)) (clauseItem forms) λ before.
-    from-as (omega arith) (λ x. omega arith) (line-from clauseLine (clauseRefusal forms) (clause-mild forms) (clauseAt (length forms) (length before)))) λ lines.
+    (counted-from clausesLine (number-own "clauses=" refl refl) clausesRefusal (count-mild 0 mostPolicyLines) (clausesAt (length forms)) (clauseItem forms) λ before.
+    from-as (omega arith) (λ x. omega arith) (line-from clauseLine (number-own "clause=" refl refl) (clauseRefusal forms) (clause-mild forms) (clauseAt (length forms) (length before)))) λ lines.
     from-as (omega arith) (λ x. refl)
-    (then-from (line-from goalLine (goalRefusal forms) (goal-mild forms) (goalAt (length forms) (length lines))) λ goal.
+    (then-from (line-from goalLine (number-own "goal=" refl refl) (goalRefusal forms) (goal-mild forms) (goalAt (length forms) (length lines))) λ goal.
     from-as (omega arith) (λ x. refl)
     (then-from
-    (counted-from stepsLine stepsRefusal (count-mild 1 mostSteps) (stepsAt (length forms) (length lines)) (stepItem (length forms) (length lines)) λ before.
-    from-as (omega arith) (λ x. omega arith) (line-from stepLine stepRefusal step-mild (stepAt (length forms) (length lines) (suc (length before))))) λ steps.
+    (counted-from stepsLine (number-own "steps=" refl refl) stepsRefusal (count-mild 1 mostSteps) (stepsAt (length forms) (length lines)) (stepItem (length forms) (length lines)) λ before.
+    from-as (omega arith) (λ x. omega arith) (line-from stepLine (row-own "step=" stepKinds refl step-kinds-neat refl) stepRefusal step-mild (stepAt (length forms) (length lines) (suc (length before))))) λ steps.
     done-from _ _ _ (omega arith)))
 
-ended-bad : (x : Read Request) (k i : ℕ) → x ≡ bad (answer k i) → ended x ≡ refused (answer k i)
+ended-bad : (x : Read Request) (k i c : ℕ) → x ≡ bad (told k i c) → ended x ≡ refused (told k i c)
 unfolding ended
-ended-bad x k i e = rw e
+ended-bad x k i c e = rw e
 
 -- Every refusal of a text is met at its place.
-pub refused-where : (s : List ℕ) (k i : ℕ) → readRequest s ≡ refused (answer k i) → Where s k i
+pub refused-where : (s : List ℕ) (k i column : ℕ) → readRequest s ≡ refused (told k i column) → Where s k i column
 unfolding readRequest ended
-refused-where s k i e = go (requestLines s) refl e
+refused-where s k i column e = go (requestLines s) refl e
   where
-    go : (x : Read Request) → requestLines s ≡ x → ended x ≡ refused (answer k i) → Where s k i
-    go (bad (answer n j)) d e′ =
+    go : (x : Read Request) → requestLines s ≡ x → ended x ≡ refused (told k i column) → Where s k i column
+    go (bad (told n j m)) d e′ =
         let y : n ≡ k = cc in
         let z : j ≡ i = cc in
-        let p = request-from .stops s k i (cc (d, y, z)) in
+        let x : m ≡ column = cc in
+        let p = request-from .stops s k i column (cc (d, y, z, x)) in
         of-line
         (record { before = p .before; rest = p .rest; parted = p .parted; lines = p .lines; place = omega (arith, p .place) })
         (p .number)
-        (ended-bad (requestLines (p .before)) 2 i (p .short))
-        (λ l r c t. ended-bad (requestLines (p .before ++ (l ++ 10 ∷ t))) k i (p .whatever l r c t))
+        (ended-bad (requestLines (p .before)) 2 i 1 (p .short))
+        (λ l r c t. ended-bad (requestLines (p .before ++ (l ++ 10 ∷ t))) k i column (p .whatever l r c t))
     go (ok q []) d e′ = never cc
     go (ok q (b ∷ rest)) d e′ =
         let p = request-from .goes s q (b ∷ rest) d in
@@ -87,6 +93,7 @@ refused-where s k i e = go (requestLines s) refl e
         (record { before = p .gone; rest = b ∷ rest; parted = p .parted; lines = p .lines; place = omega (arith, p .stands) })
         q
         (sym y)
+        (cc)
         (rw w refl)
 
 ended-read : (x : Read Request) (q : Request) → ended x ≡ read q → x ≡ ok q []

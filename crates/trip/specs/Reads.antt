@@ -5,7 +5,7 @@ use mathlib.Core.Path.{_≡_, refl, ap}
 use mathlib.Core.List.{List, [], _∷_, _++_, append-assoc}
 use mathlib.Core.Bool.{true}
 use mathlib.Core.Option.{Option, none, some}
-use Rattle.scope.specs.File.Line.{Shape, Line, Value, val, out, ok, Reader, Cut, parts, uncut, cut, strip, orRefused, shapedAs, valued, placed, lineOf, line, lineText}
+use Rattle.scope.specs.File.Line.{Shape, Line, Value, val, out, ok, Reader, Cut, parts, uncut, cut, strip, orRefused, shapedAs, valued, placed, lineOf, lineStop, line, lineText}
 use Rattle.scope.specs.Tools.Tests.{never}
 use Rattle.trip.specs.Cuts.{free, free-append, cut-there, cut-back, strip-there, strip-back}
 
@@ -43,10 +43,10 @@ valued-back l refusal (some v) a e =
     let p = judged-back refusal (l .shape .thing v) a e in
     (v, refl, p .0, p .1)
 
-placed-back : {A : Type 0} (i : ℕ) (x : Value A) (r : List ℕ) (a : A) (rest : List ℕ) → placed i x r ≡ ok a rest → (x ≡ val a) × (r ≡ rest)
+placed-back : {A : Type 0} (i column : ℕ) (x : Value A) (r : List ℕ) (a : A) (rest : List ℕ) → placed i column x r ≡ ok a rest → (x ≡ val a) × (r ≡ rest)
 unfolding placed
-placed-back i (val b) r a rest e = (cc, cc)
-placed-back i (out k) r a rest e = never cc
+placed-back i column (val b) r a rest e = (cc, cc)
+placed-back i column (out k) r a rest e = never cc
 
 record Line-read {A : Type 0} (l : Line A) (refusal : A → ℕ) (x : Cut) (a : A) (rest : List ℕ) : Type 0 where
   before : List ℕ
@@ -56,11 +56,11 @@ record Line-read {A : Type 0} (l : Line A) (refusal : A → ℕ) (x : Cut) (a : 
   read : l .shape .thing value ≡ some a
   unrefused : refusal a ≡ 0
 
-line-read : {A : Type 0} (l : Line A) (refusal : A → ℕ) (i : ℕ) (x : Cut) (a : A) (rest : List ℕ) → lineOf l refusal i x ≡ ok a rest → Line-read l refusal x a rest
+line-read : {A : Type 0} (l : Line A) (refusal : A → ℕ) (i column : ℕ) (x : Cut) (a : A) (rest : List ℕ) → lineOf l refusal i column x ≡ ok a rest → Line-read l refusal x a rest
 unfolding lineOf
-line-read l refusal i uncut a rest e = never cc
-line-read l refusal i (parts s r) a rest e =
-    let p = placed-back i (valued l refusal (strip (l .key) s)) r a rest e in
+line-read l refusal i column uncut a rest e = never cc
+line-read l refusal i column (parts s r) a rest e =
+    let p = placed-back i column (valued l refusal (strip (l .key) s)) r a rest e in
     let v = valued-back l refusal (strip (l .key) s) a (p .0) in
     record { before = s; value = v .0; cutting = ap (λ t. parts s t) (p .1); stripped = v .1; read = v .2; unrefused = v .3 }
 
@@ -80,7 +80,7 @@ line-reads {A} l refusal i f c fine = record { there = reads; back = texts; good
 
     texts : (s : List ℕ) (a : A) (rest : List ℕ) → line l refusal i s ≡ ok a rest → s ≡ lineText l a ++ rest
     texts s a rest e =
-        let d = line-read l refusal i (cut 10 s) a rest e in
+        let d = line-read l refusal i (suc (lineStop l s)) (cut 10 s) a rest e in
         let x = cut-back 10 s (d .before) rest (d .cutting) in
         let y = strip-back (l .key) (d .before) (d .value) (d .stripped) in
         let z = c .back (d .value) a (d .read) in
@@ -88,4 +88,4 @@ line-reads {A} l refusal i f c fine = record { there = reads; back = texts; good
         cc
 
     goods : (s : List ℕ) (a : A) (rest : List ℕ) → line l refusal i s ≡ ok a rest → refusal a ≡ 0
-    goods s a rest e = line-read l refusal i (cut 10 s) a rest e .unrefused
+    goods s a rest e = line-read l refusal i (suc (lineStop l s)) (cut 10 s) a rest e .unrefused

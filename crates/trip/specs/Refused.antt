@@ -8,10 +8,11 @@ use mathlib.Core.Bool.{Bool, true, false, cond}
 use native.Mathlib.Omega.{arith}
 use lib.Dec.{leb}
 use lib.ListN.{length}
-use Rattle.scope.specs.Call.Answer.{Answer, answer}
+use Rattle.scope.specs.Call.Answer.{Answer, told, answer}
 use Rattle.scope.specs.File.Bytes.{bytes, joined}
 use Rattle.scope.specs.File.Request.{Request}
 use Rattle.scope.specs.File.Line.{Line, Read, ok, bad, Reader, orRefused, placed, line, lineText, andThen, _>>=_, done, many, manyText, counted, countedText}
+use Rattle.scope.specs.Limits.{mostPrincipals, mostAtoms, mostFormulas, mostPolicyLines, mostSteps}
 use Rattle.scope.specs.Limits.{versionAt, formAt, clausesAt, clauseAt, goalAt, stepsAt, stepAt}
 use Rattle.scope.specs.File.Kinds.{formKinds, stepKinds}
 use Rattle.scope.specs.File.Refusals.{demand, countRefusal, versionRefusal, principalsRefusal, atomsRefusal, formulasRefusal, formRefusal, clausesRefusal, clauseRefusal, goalRefusal, stepsRefusal, stepRefusal}
@@ -27,34 +28,36 @@ use Rattle.trip.specs.Rows as Rows
 use Rattle.trip.specs.Reads.{Shaped}
 use Rattle.trip.specs.Packing.{All, none-left, one-more}
 use Rattle.trip.specs.File.{number-shaped, row-shaped}
+use Rattle.trip.specs.LineRefusals.{Mild, mild-column, count-mild, form-mild, clause-mild, goal-mild, step-mild}
 use Rattle.trip.specs.Checks.{passes}
 use Rattle.trip.specs.Trip.{check-law}
 
 -- What a reader gives under the first refusal met: the thing and the rest where none is, else that refusal.
 unfoldable metThen : {A : Type 0} → Answer → A → List ℕ → Read A
-metThen (answer zero place) a rest = ok a rest
-metThen (answer (suc k) place) a rest = bad (answer (suc k) place)
+metThen (told zero place column) a rest = ok a rest
+metThen (told (suc k) place column) a rest = bad (told (suc k) place column)
 
 -- A reader on the text of a thing, whatever follows, gives what these answers say of it.
 record Meets {A : Type 0} (rd : Reader A) (text : List ℕ) (answers : List Answer) (a : A) : Type 0 where
   gives : (rest : List ℕ) → rd (text ++ rest) ≡ metThen (firstMet answers) a rest
 
 line-meets :
-    {A : Type 0} {Fits : A → Type 0} (l : Line A) (refusal : A → ℕ) (i : ℕ) (a : A) → free 10 (l .key) ≡ true → Shaped (l .shape) Fits → Fits a
+    {A : Type 0} {Fits : A → Type 0} (l : Line A) (refusal : A → ℕ) (i : ℕ) (a : A) → Mild (refusal a) → free 10 (l .key) ≡ true
+    → Shaped (l .shape) Fits → Fits a
     → Meets (line l refusal i) (lineText l a) (answer (refusal a) i ∷ []) a
-unfolding line lineText firstMet metThen
-line-meets {A} l refusal i a f c g = record { gives = gives }
+unfolding line lineText firstMet metThen placed
+line-meets {A} l refusal i a m f c g = record { gives = gives }
   where
-    settles : (k : ℕ) (rest : List ℕ) → placed i (orRefused k a) rest ≡ metThen (firstMet (answer k i ∷ [])) a rest
-    settles zero rest = refl
-    settles (suc k) rest = refl
+    settles : (k column : ℕ) (rest : List ℕ) → Mild k → placed i column (orRefused k a) rest ≡ metThen (firstMet (answer k i ∷ [])) a rest
+    settles zero column rest h = refl
+    settles (suc k) column rest h = rw (mild-column k column h) refl
 
     gives : (rest : List ℕ) → line l refusal i (lineText l a ++ rest) ≡ metThen (firstMet (answer (refusal a) i ∷ [])) a rest
     gives rest =
         let t = l .shape .text a in
         let k = cut-there 10 (l .key ++ t) rest (free-append 10 (l .key) t f (c .clean a g)) in
         let b : l .key ++ t ++ (10 ∷ []) ++ rest ≡ l .key ++ t ++ 10 ∷ rest = append-assoc (l .key ++ t) (10 ∷ []) rest in
-        rw (b, k, strip-there (l .key) t, c .there a g) (settles (refusal a) rest)
+        rw (b, k, strip-there (l .key) t, c .there a g) (settles (refusal a) _ rest m)
 
 -- The end: nothing is asked.
 done-meets : {A : Type 0} (a : A) → Meets (done a) [] [] a
@@ -71,8 +74,8 @@ seq-meets {A} {B} {m} {s} {t} {xs} {ys} {a} {b} next p q =
   where
     goes-on : (zs : List Answer) (rest : List ℕ) → andThen (metThen (firstMet zs) a (t ++ rest)) next ≡ metThen (firstMet (zs ++ ys)) b rest
     goes-on [] rest = q .gives rest
-    goes-on (answer zero p ∷ zs) rest = goes-on zs rest
-    goes-on (answer (suc k) p ∷ zs) rest = refl
+    goes-on (told zero p c ∷ zs) rest = goes-on zs rest
+    goes-on (told (suc k) p c ∷ zs) rest = refl
 
 -- What is put together from a thing meets what the thing met.
 then-meets :
@@ -82,8 +85,8 @@ unfolding _>>=_ andThen firstMet metThen
 then-meets {A} {B} f {m} {s} {xs} {a} p = record { gives = λ rest. rw (p .gives rest) (goes-on (firstMet xs) rest) }
   where
     goes-on : (x : Answer) (rest : List ℕ) → andThen (metThen x a rest) (λ y. done (f y)) ≡ metThen x (f a) rest
-    goes-on (answer zero p) rest = refl
-    goes-on (answer (suc k) p) rest = refl
+    goes-on (told zero p c) rest = refl
+    goes-on (told (suc k) p c) rest = refl
 
 -- Several of one kind.
 module _
@@ -117,36 +120,37 @@ pub record InShape (q : Request) : Type 0 where
   pub steps : All (Rows.SayableRow stepKinds) (q .steps)
 
 number-meets :
-    (key : String) (refusal : ℕ → ℕ) (i n : ℕ) → free 10 (bytes key) ≡ true → n < 100000
+    (key : String) (refusal : ℕ → ℕ) (i n : ℕ) → Mild (refusal n) → free 10 (bytes key) ≡ true → n < 100000
     → Meets (line (numberLine key) refusal i) (lineText (numberLine key) n) (answer (refusal n) i ∷ []) n
-number-meets key refusal i n f h = line-meets (numberLine key) refusal i n f number-shaped h
+number-meets key refusal i n m f h = line-meets (numberLine key) refusal i n m f number-shaped h
 
 request-meets : (q : Request) → InShape q → Meets requestLines (requestText q) (answer (versionRefusal 1) versionAt ∷ lineAnswers q) q
 unfolding requestLines requestText joined lineAnswers free
 request-meets q g =
     let nf = length (q .forms) in
     let nl = length (q .policy) in
-    seq-meets _ (number-meets "version=" versionRefusal 1 1 refl (omega arith))
-    (seq-meets _ (number-meets "principals=" principalsRefusal 2 (q .principals) refl (g .principals))
-    (seq-meets _ (number-meets "atoms=" atomsRefusal 3 (q .atoms) refl (g .atoms))
+    seq-meets _ (number-meets "version=" versionRefusal 1 1 (count-mild 1 1 1) refl (omega arith))
+    (seq-meets _ (number-meets "principals=" principalsRefusal 2 (q .principals) (count-mild 1 mostPrincipals (q .principals)) refl (g .principals))
+    (seq-meets _ (number-meets "atoms=" atomsRefusal 3 (q .atoms) (count-mild 1 mostAtoms (q .atoms)) refl (g .atoms))
     (seq-meets _
     (counted-meets formulasLine formulasRefusal 4 (formItem (q .principals) (q .atoms)) formLine
     (λ before r. answer (formRefusal (q .principals) (q .atoms) before r) (formAt (length before))) (Rows.SayableRow formKinds) (q .forms)
-    (number-meets "formulas=" formulasRefusal 4 nf refl (g .formulas))
-    (λ before r h. line-meets formLine (formRefusal (q .principals) (q .atoms) before) (formAt (length before)) r refl (row-shaped formKinds form-kinds-neat) h)
+    (number-meets "formulas=" formulasRefusal 4 nf (count-mild 1 mostFormulas nf) refl (g .formulas))
+    (λ before r h. line-meets formLine (formRefusal (q .principals) (q .atoms) before) (formAt (length before)) r (form-mild (q .principals) (q .atoms) before r) refl
+    (row-shaped formKinds form-kinds-neat) h)
     (g .forms))
     (seq-meets _
     (counted-meets clausesLine clausesRefusal (clausesAt nf) (clauseItem (q .forms)) clauseLine
     (λ before f. answer (clauseRefusal (q .forms) f) (clauseAt nf (length before))) (λ f. f < 100000) (q .policy)
-    (number-meets "clauses=" clausesRefusal (clausesAt nf) nl refl (g .clauses))
-    (λ before f h. number-meets "clause=" (clauseRefusal (q .forms)) (clauseAt nf (length before)) f refl h)
+    (number-meets "clauses=" clausesRefusal (clausesAt nf) nl (count-mild 0 mostPolicyLines nl) refl (g .clauses))
+    (λ before f h. number-meets "clause=" (clauseRefusal (q .forms)) (clauseAt nf (length before)) f (clause-mild (q .forms) f) refl h)
     (g .policy))
-    (seq-meets _ (number-meets "goal=" (goalRefusal (q .forms)) (goalAt nf nl) (q .goal) refl (g .goal))
+    (seq-meets _ (number-meets "goal=" (goalRefusal (q .forms)) (goalAt nf nl) (q .goal) (goal-mild (q .forms) (q .goal)) refl (g .goal))
     (seq-meets _
     (counted-meets stepsLine stepsRefusal (stepsAt nf nl) (stepItem nf nl) stepLine
     (λ before r. answer (stepRefusal r) (stepAt nf nl (suc (length before)))) (Rows.SayableRow stepKinds) (q .steps)
-    (number-meets "steps=" stepsRefusal (stepsAt nf nl) (length (q .steps)) refl (g .step-count))
-    (λ before r h. line-meets stepLine stepRefusal (stepAt nf nl (suc (length before))) r refl (row-shaped stepKinds step-kinds-neat) h)
+    (number-meets "steps=" stepsRefusal (stepsAt nf nl) (length (q .steps)) (count-mild 1 mostSteps (length (q .steps))) refl (g .step-count))
+    (λ before r h. line-meets stepLine stepRefusal (stepAt nf nl (suc (length before))) r (step-mild r) refl (row-shaped stepKinds step-kinds-neat) h)
     (g .steps))
     (done-meets q)))))))
 
@@ -156,21 +160,21 @@ unfolding readRequest firstMet countRefusal
 text-told q g = ap (λ s. ended (requestLines s)) (sym (append-nil (requestText q))) ∙ ap ended (request-meets q g .gives [])
 
 pub lines-refused :
-    (q : Request) (k i : ℕ) → InShape q → firstMet (lineAnswers q) ≡ answer (suc k) i → readRequest (requestText q) ≡ refused (answer (suc k) i)
+    (q : Request) (k i c : ℕ) → InShape q → firstMet (lineAnswers q) ≡ told (suc k) i c → readRequest (requestText q) ≡ refused (told (suc k) i c)
 unfolding ended metThen
-lines-refused q k i g e = text-told q g ∙ ap (λ a. ended (metThen a q [])) e
+lines-refused q k i c g e = text-told q g ∙ ap (λ a. ended (metThen a q [])) e
 
 pub refused-lines :
-    (q : Request) (k i : ℕ) → InShape q → readRequest (requestText q) ≡ refused (answer k i)
-    → (j : ℕ) × (k ≡ suc j) × (firstMet (lineAnswers q) ≡ answer (suc j) i)
+    (q : Request) (k i c : ℕ) → InShape q → readRequest (requestText q) ≡ refused (told k i c)
+    → (j : ℕ) × (k ≡ suc j) × (firstMet (lineAnswers q) ≡ told (suc j) i c)
 unfolding ended metThen
-refused-lines q k i g e = go (firstMet (lineAnswers q)) refl (sym (text-told q g) ∙ e)
+refused-lines q k i c g e = go (firstMet (lineAnswers q)) refl (sym (text-told q g) ∙ e)
   where
     go :
-        (a : Answer) → firstMet (lineAnswers q) ≡ a → ended (metThen a q []) ≡ refused (answer k i)
-        → (j : ℕ) × (k ≡ suc j) × (firstMet (lineAnswers q) ≡ answer (suc j) i)
-    go (answer zero p) d h = never cc
-    go (answer (suc j) p) d h = (j, cc, cc)
+        (a : Answer) → firstMet (lineAnswers q) ≡ a → ended (metThen a q []) ≡ refused (told k i c)
+        → (j : ℕ) × (k ≡ suc j) × (firstMet (lineAnswers q) ≡ told (suc j) i c)
+    go (told zero p n) d h = never cc
+    go (told (suc j) p n) d h = (j, cc, cc)
 
 -- Tables with room whose request can be said in shape.
 pub record Sayable (t : Lent) : Type 0 where
@@ -178,60 +182,63 @@ pub record Sayable (t : Lent) : Type 0 where
   pub in-shape : InShape (requestOf t)
 
 -- What is met in a list is met in a longer one; and what is met at a line is not met in a last answer at place 0.
-met-longer : (k i : ℕ) (xs ys : List Answer) → firstMet xs ≡ answer (suc k) i → firstMet (xs ++ ys) ≡ answer (suc k) i
+met-longer : (k i c : ℕ) (xs ys : List Answer) → firstMet xs ≡ told (suc k) i c → firstMet (xs ++ ys) ≡ told (suc k) i c
 unfolding firstMet
-met-longer k i [] ys e = never cc
-met-longer k i (answer zero p ∷ xs) ys e = met-longer k i xs ys e
-met-longer k i (answer (suc j) p ∷ xs) ys e = e
+met-longer k i c [] ys e = never cc
+met-longer k i c (told zero p n ∷ xs) ys e = met-longer k i c xs ys e
+met-longer k i c (told (suc j) p n ∷ xs) ys e = e
 
-met-before : (k i d : ℕ) (xs : List Answer) → firstMet (xs ++ (answer d 0 ∷ [])) ≡ answer (suc k) (suc i) → firstMet xs ≡ answer (suc k) (suc i)
+met-before : (k i c d : ℕ) (xs : List Answer) → firstMet (xs ++ (answer d 0 ∷ [])) ≡ told (suc k) (suc i) c → firstMet xs ≡ told (suc k) (suc i) c
 unfolding firstMet
-met-before k i zero [] e = never cc
-met-before k i (suc d) [] e =
+met-before k i c zero [] e = never cc
+met-before k i c (suc d) [] e =
     let z : _≡_ {A = ℕ} 0 (suc i) = cc in
     absurd (omega arith)
-met-before k i d (answer zero p ∷ xs) e = met-before k i d xs e
-met-before k i d (answer (suc j) p ∷ xs) e = e
+met-before k i c d (told zero p n ∷ xs) e = met-before k i c d xs e
+met-before k i c d (told (suc j) p n ∷ xs) e = e
 
 -- With room, the lines are asked first.
 room-law : (t : Lent) → Sayable t → checked t ≡ firstMet (lineAnswers (requestOf t) ++ answer (demand (pastZero t) 3 0) 0 ∷ [])
 room-law t g = check-law t ∙ passes _ _ _ (demand-passes _ 13 0 (g .room))
 
 -- What refuses the text refuses the tables, at the same line; and what refuses the tables at a line refuses the text there.
-pub text-checked : (t : Lent) (k i : ℕ) → Sayable t → readRequest (requestText (requestOf t)) ≡ refused (answer k i) → checked t ≡ answer k i
-text-checked t k i g e =
-    let m = refused-lines (requestOf t) k i (g .in-shape) e in
-    rw (m .1) (room-law t g ∙ met-longer (m .0) i (lineAnswers (requestOf t)) _ (m .2))
+pub text-checked : (t : Lent) (k i c : ℕ) → Sayable t → readRequest (requestText (requestOf t)) ≡ refused (told k i c) → checked t ≡ told k i c
+text-checked t k i c g e =
+    let m = refused-lines (requestOf t) k i c (g .in-shape) e in
+    rw (m .1) (room-law t g ∙ met-longer (m .0) i c (lineAnswers (requestOf t)) _ (m .2))
 
 pub checked-text :
-    (t : Lent) (k i : ℕ) → Sayable t → checked t ≡ answer (suc k) (suc i) → readRequest (requestText (requestOf t)) ≡ refused (answer (suc k) (suc i))
-checked-text t k i g e =
-    lines-refused (requestOf t) k (suc i) (g .in-shape) (met-before k i _ (lineAnswers (requestOf t)) (sym (room-law t g) ∙ e))
+    (t : Lent) (k i c : ℕ) → Sayable t → checked t ≡ told (suc k) (suc i) c
+    → readRequest (requestText (requestOf t)) ≡ refused (told (suc k) (suc i) c)
+checked-text t k i c g e =
+    lines-refused (requestOf t) k (suc i) c (g .in-shape) (met-before k i c _ (lineAnswers (requestOf t)) (sym (room-law t g) ∙ e))
 
 -- The same of the writer, whatever the output's length: refusal 14 and the refusal past the counts have place 0.
 pub text-unwritten :
-    (t : Lent) (len k i : ℕ) → Sayable t → readRequest (requestText (requestOf t)) ≡ refused (answer k i) → writing t len ≡ unwritten (answer k i)
+    (t : Lent) (len k i c : ℕ) → Sayable t → readRequest (requestText (requestOf t)) ≡ refused (told k i c) → writing t len ≡ unwritten (told k i c)
 unfolding writing writtenIf
-text-unwritten t len k i g e =
-    let m = refused-lines (requestOf t) k i (g .in-shape) e in
-    rw (text-checked t k i g e, m .1)
+text-unwritten t len k i c g e =
+    let m = refused-lines (requestOf t) k i c (g .in-shape) e in
+    rw (text-checked t k i c g e, m .1)
 
 pub unwritten-text :
-    (t : Lent) (len k i : ℕ) → Sayable t → writing t len ≡ unwritten (answer k (suc i)) → readRequest (requestText (requestOf t)) ≡ refused (answer k (suc i))
+    (t : Lent) (len k i n : ℕ) → Sayable t → writing t len ≡ unwritten (told k (suc i) n)
+    → readRequest (requestText (requestOf t)) ≡ refused (told k (suc i) n)
 unfolding writing writtenIf
-unwritten-text t len k i g e = go (checked t) refl e
+unwritten-text t len k i n g e = go (checked t) refl e
   where
-    fits : (b : Bool) (s : List ℕ) → cond b (written s) (unwritten (answer 14 0)) ≡ unwritten (answer k (suc i)) → _≡_ {A = ℕ} 0 1
+    fits : (b : Bool) (s : List ℕ) → cond b (written s) (unwritten (answer 14 0)) ≡ unwritten (told k (suc i) n) → _≡_ {A = ℕ} 0 1
     fits true s h = cc
     fits false s h =
         let z : _≡_ {A = ℕ} 0 (suc i) = cc in
         absurd (omega arith)
 
     go :
-        (a : Answer) → checked t ≡ a → writtenIf a (requestText (requestOf t)) len ≡ unwritten (answer k (suc i))
-        → readRequest (requestText (requestOf t)) ≡ refused (answer k (suc i))
-    go (answer zero p) c h = never (fits (leb (length (requestText (requestOf t))) len) (requestText (requestOf t)) h)
-    go (answer (suc j) p) c h =
+        (a : Answer) → checked t ≡ a → writtenIf a (requestText (requestOf t)) len ≡ unwritten (told k (suc i) n)
+        → readRequest (requestText (requestOf t)) ≡ refused (told k (suc i) n)
+    go (told zero p m) c h = never (fits (leb (length (requestText (requestOf t))) len) (requestText (requestOf t)) h)
+    go (told (suc j) p m) c h =
         let x : suc j ≡ k = cc in
         let y : p ≡ suc i = cc in
-        checked-text t j i g (c ∙ ap (λ n. answer (suc j) n) y) ∙ ap (λ n. refused (answer n (suc i))) x
+        let z : m ≡ n = cc in
+        checked-text t j i n g (rw (y, z) at c) ∙ ap (λ a. refused (told a (suc i) n)) x

@@ -6,7 +6,7 @@ use mathlib.Core.Path.{_≡_, sym, _∙_}
 use mathlib.Core.List.{List}
 use mathlib.Core.Bool.{true}
 use lib.ListN.{length}
-use Rattle.scope.specs.Call.Answer.{answer}
+use Rattle.scope.specs.Call.Answer.{told, answer}
 use Rattle.scope.specs.File.Request.{Request}
 use Rattle.scope.specs.File.Text.{requestText}
 use Rattle.scope.specs.Limits.{mostBytes, endAt}
@@ -65,28 +65,28 @@ trip-read = read-then-write
 -- '3, 4 or 5 at the line where the text would have it': of tables with room whose lines can all be said in shape (`Sayable`), the first
 -- refusal that the lines meet is the one that reading their text gives.
 pub refused-alike :
-    (t : Lent) (k i : ℕ) → Sayable t → firstMet (lineAnswers (requestOf t)) ≡ answer (suc k) i
-    → readRequest (requestText (requestOf t)) ≡ refused (answer (suc k) i)
-refused-alike t k i g e = lines-refused (requestOf t) k i (g .in-shape) e
+    (t : Lent) (k i c : ℕ) → Sayable t → firstMet (lineAnswers (requestOf t)) ≡ told (suc k) i c
+    → readRequest (requestText (requestOf t)) ≡ refused (told (suc k) i c)
+refused-alike t k i c g e = lines-refused (requestOf t) k i c (g .in-shape) e
 
 -- So the checks refuse such tables at a line exactly if the reader refuses their text there, with the same number. Place 0 is left to what
 -- no text has: a nonzero entry past the counts.
 pub checks-alike :
-    (t : Lent) (k i : ℕ) → Sayable t
-    → (checked t ≡ answer (suc k) (suc i) → readRequest (requestText (requestOf t)) ≡ refused (answer (suc k) (suc i))) ×
-    (readRequest (requestText (requestOf t)) ≡ refused (answer k i) → checked t ≡ answer k i)
-checks-alike t k i g = (checked-text t k i g, text-checked t k i g)
+    (t : Lent) (k i c : ℕ) → Sayable t
+    → (checked t ≡ told (suc k) (suc i) c → readRequest (requestText (requestOf t)) ≡ refused (told (suc k) (suc i) c)) ×
+    (readRequest (requestText (requestOf t)) ≡ refused (told k i c) → checked t ≡ told k i c)
+checks-alike t k i c g = (checked-text t k i c g, text-checked t k i c g)
 
 -- And so does the writer, whatever the length of the output.
 pub writes-alike :
-    (t : Lent) (len k i : ℕ) → Sayable t
-    → (writing t len ≡ unwritten (answer k (suc i)) → readRequest (requestText (requestOf t)) ≡ refused (answer k (suc i))) ×
-    (readRequest (requestText (requestOf t)) ≡ refused (answer k i) → writing t len ≡ unwritten (answer k i))
-writes-alike t len k i g = (unwritten-text t len k i g, text-unwritten t len k i g)
+    (t : Lent) (len k i c : ℕ) → Sayable t
+    → (writing t len ≡ unwritten (told k (suc i) c) → readRequest (requestText (requestOf t)) ≡ refused (told k (suc i) c)) ×
+    (readRequest (requestText (requestOf t)) ≡ refused (told k i c) → writing t len ≡ unwritten (told k i c))
+writes-alike t len k i c g = (unwritten-text t len k i c g, text-unwritten t len k i c g)
 
 -- A text refused at a line (`Where`): the line's number is 1 and the LFs before it, what stands before it is whole lines and short of just
--- that line, or for 6 reads, and whatever stands behind that line the refusal is the same.
-pub placed-right : (s : List ℕ) (k i : ℕ) → readRequest s ≡ refused (answer k i) → Where s k i
+-- that line, or for 6 reads, and whatever stands behind that line the refusal and its column are the same. The column is 0 but for 2.
+pub placed-right : (s : List ℕ) (k i c : ℕ) → readRequest s ≡ refused (told k i c) → Where s k i c
 placed-right = refused-where
 
 -- And a text that reads is whole lines, as many as the request has: the line behind them is `endAt`'s.

@@ -7,7 +7,7 @@ use mathlib.Core.Bool.{Bool, true, false, cond}
 use lib.Dec.{leb}
 use lib.ListN.{length}
 use borrow.Author.Tests.{leb-true, le-leb}
-use Rattle.scope.specs.Call.Answer.{Answer, answer}
+use Rattle.scope.specs.Call.Answer.{Answer, told, answer}
 use Rattle.scope.specs.File.Request.{Request}
 use Rattle.scope.specs.File.Refusals.{demand}
 use Rattle.scope.specs.File.Text.{requestText}
@@ -38,8 +38,8 @@ pub check-law :
 unfolding checked
 check-law t = refl
 
-pub unmet : (t : Lent) (place : ℕ) → checked t ≡ answer 0 place → checked t ≡ answer 0 0
-unmet t place e = check-law t ∙ met-nothing _ place (sym (check-law t) ∙ e)
+pub unmet : (t : Lent) (place column : ℕ) → checked t ≡ told 0 place column → checked t ≡ answer 0 0
+unmet t place column e = check-law t ∙ met-nothing _ place column (sym (check-law t) ∙ e)
 
 pub checked-fine : (t : Lent) → checked t ≡ answer 0 0 → Fine t
 checked-fine t e =
@@ -73,10 +73,10 @@ wrote t len s e = go (checked t) refl e
     picked false u l q = never cc
 
     go : (a : Answer) → checked t ≡ a → writtenIf a (requestText (requestOf t)) len ≡ written s → Wrote t len s
-    go (answer zero p) c q =
+    go (told zero p n) c q =
         let w = picked (leb (length (requestText (requestOf t))) len) (requestText (requestOf t)) refl q in
-        record { fine = checked-fine t (unmet t p c); text = w .0; fits = w .1 }
-    go (answer (suc k) p) c q = never cc
+        record { fine = checked-fine t (unmet t p n c); text = w .0; fits = w .1 }
+    go (told (suc k) p n) c q = never cc
 
 pub write-again : (t : Lent) (len : ℕ) → Fine t → length (requestText (requestOf t)) ≤ len → writing t len ≡ written (requestText (requestOf t))
 unfolding writing writtenIf

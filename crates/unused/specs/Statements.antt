@@ -27,7 +27,7 @@ steps-read : (q r : Request) → Alike q r → length (q .steps) ≡ length (r .
 unfolding stepsOf
 steps-read q r a = sym (length-map (q .steps) stepOf) ∙ ap length (a .steps) ∙ length-map (r .steps) stepOf
 
--- Over files that both read without refusal: the gate prints the same three numbers.
+-- Over files that both read without refusal: the gate prints the same four numbers.
 pub same-printed : (s t : List ℕ) (q r : Request) →
     reading (3 * mostFormulas) mostPolicyLines (2 * mostSteps) s ≡ read q →
     reading (3 * mostFormulas) mostPolicyLines (2 * mostSteps) t ≡ read r → Alike q r → gate s ≡ gate t

@@ -6,7 +6,7 @@ use mathlib.Core.List.{List, []}
 use borrow.Author.Tests.{le-leb, lt-leb}
 use lib.ListN.{length, replicate}
 use Rattle.scope.specs.Tools.Tests.{never}
-use Rattle.scope.specs.Call.Answer.{Answer, answer, refusalIn, placeIn}
+use Rattle.scope.specs.Call.Answer.{Answer, told, answer, refusalIn, placeIn}
 use Rattle.scope.specs.File.Text.{requestText}
 use Rattle.scope.specs.Call.Tables.{Lent, requestOf, padded}
 use Rattle.scope.specs.Call.Checked.{checked}
@@ -33,20 +33,20 @@ zeros-left len w e = rw e (ap (λ (n : ℕ). replicate n 0) (sym (sub-zero len))
 
 if-refused : (a : Answer) (s : List ℕ) (len : ℕ) (r : Returned) → checkedOf a ≡ Refused r → writtenIf a s len ≡ unwritten (answerIs r)
 unfolding checkedOf writtenIf
-if-refused (answer zero place) s len r e = never cc
-if-refused (answer (suc k) place) s len r e =
-    let f : answerOf (answer (suc k) place) ≡ r = cc in
+if-refused (told zero place column) s len r e = never cc
+if-refused (told (suc k) place column) s len r e =
+    let f : answerOf (told (suc k) place column) ≡ r = cc in
     ap (λ x. unwritten (answerIs x)) f
 
 if-fits : (a : Answer) (s : List ℕ) (len : ℕ) → checkedOf a ≡ Fine → length s ≤ len → writtenIf a s len ≡ written s
 unfolding checkedOf writtenIf
-if-fits (answer zero place) s len e h = rw (le-leb (length s) len h) refl
-if-fits (answer (suc k) place) s len e h = never cc
+if-fits (told zero place column) s len e h = rw (le-leb (length s) len h) refl
+if-fits (told (suc k) place column) s len e h = never cc
 
 if-short : (a : Answer) (s : List ℕ) (len : ℕ) → checkedOf a ≡ Fine → len < length s → writtenIf a s len ≡ unwritten (answer 14 0)
 unfolding checkedOf writtenIf
-if-short (answer zero place) s len e h = rw (lt-leb (length s) len h) refl
-if-short (answer (suc k) place) s len e h = never cc
+if-short (told zero place column) s len e h = rw (lt-leb (length s) len h) refl
+if-short (told (suc k) place column) s len e h = never cc
 
 pub writing-is : (t : Lent) (len : ℕ) → writing t len ≡ writtenIf (checked t) (requestText (requestOf t)) len
 unfolding writing

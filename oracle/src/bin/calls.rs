@@ -79,9 +79,9 @@ fn frame_of(call: usize, bytes: usize, lengths: [usize; 3], counts: &[u16]) -> V
 }
 
 /// An answer up to what the call leaves behind.
-fn back_of(refusal: u8, place: usize, number: usize, counts: &[u16]) -> Vec<u8> {
+fn back_of(refusal: u8, place: usize, column: usize, number: usize, counts: &[u16]) -> Vec<u8> {
     let mut back = Vec::new();
-    put_wide(&mut back, &[refusal.into(), place, number]);
+    put_wide(&mut back, &[refusal.into(), place, column, number]);
     put_table(&mut back, counts);
     back
 }
@@ -95,7 +95,7 @@ fn read_exchange(loan: Loan) -> Exchange {
     let [forms, clauses, steps] = &mut lent;
     let answer = read(&loan.file, forms, clauses, steps);
     let counts = narrow(&Counts::from(&answer)).expect("counts that were read");
-    let mut back = back_of(answer.refusal, answer.place, 0, &counts);
+    let mut back = back_of(answer.refusal, answer.place, answer.column, 0, &counts);
     lent.iter().for_each(|table| put_table(&mut back, table));
     Exchange { what: "read", name: loan.name, frame, refusal: answer.refusal, back }
 }
@@ -104,7 +104,7 @@ fn gate_exchange(loan: &Loan) -> Exchange {
     let mut frame = frame_of(3, loan.file.len(), [0; 3], &[0; 6]);
     frame.extend(&loan.file);
     let answer = gate(&loan.file);
-    let back = back_of(answer.answer, answer.place, answer.steps, &[0; 6]);
+    let back = back_of(answer.answer, answer.place, answer.column, answer.steps, &[0; 6]);
     Exchange { what: "gate", name: loan.name.clone(), frame, refusal: answer.answer, back }
 }
 
@@ -118,14 +118,14 @@ fn table_frame(number: usize, call: &Call, counts: &[u16]) -> Vec<u8> {
 fn write_exchange(call: &Call, counts: &[u16]) -> Exchange {
     let mut output = vec![b'x'; call.output];
     let answer = write(&call.counts, &call.tables(), &mut output);
-    let back = [back_of(answer.refusal, answer.place, answer.length, counts), output].concat();
+    let back = [back_of(answer.refusal, answer.place, 0, answer.length, counts), output].concat();
     let frame = table_frame(1, call, counts);
     Exchange { what: "write", name: call.name.clone(), frame, refusal: answer.refusal, back }
 }
 
 fn judge_exchange(call: &Call, counts: &[u16]) -> Exchange {
     let answer = judge(&call.counts, &call.tables());
-    let back = back_of(answer.refusal, answer.place, 0, counts);
+    let back = back_of(answer.refusal, answer.place, 0, 0, counts);
     let frame = table_frame(2, call, counts);
     Exchange { what: "judge", name: call.name.clone(), frame, refusal: answer.refusal, back }
 }

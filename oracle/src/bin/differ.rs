@@ -1,5 +1,5 @@
 //! Compares another gate with this one, request by request. The other reads frames: a file's length in four bytes,
-//! the lowest first, then that many bytes; and prints a line `answer place steps` for each.
+//! the lowest first, then that many bytes; and prints a line `answer place steps column` for each.
 
 use oracle::generate::{heavy, texts, Text};
 use oracle::{gate, limits, GateAnswer};
@@ -59,7 +59,7 @@ fn framed(file: &[u8]) -> &[u8] {
 
 /// The line that a gate prints.
 fn line(answer: GateAnswer) -> String {
-    format!("{} {} {}", answer.answer, answer.place, answer.steps)
+    format!("{} {} {} {}", answer.answer, answer.place, answer.steps, answer.column)
 }
 
 fn write_frames(requests: impl Iterator<Item = Text>) -> io::Result<ExitCode> {

@@ -1,5 +1,5 @@
 //! `generate SEED COUNT DIR` writes that many request files to a folder, and answers.txt with a line for each: name,
-//! answer, place, steps.
+//! answer, place, steps, column.
 
 use oracle::{gate, generate};
 use std::path::Path;
@@ -20,7 +20,7 @@ fn main() -> std::io::Result<()> {
     for text in generate::texts(seed, count) {
         let name = format!("{}.req", text.name);
         let answer = gate(&text.bytes);
-        answers += &format!("{name} {} {} {}\n", answer.answer, answer.place, answer.steps);
+        answers += &format!("{name} {} {} {} {}\n", answer.answer, answer.place, answer.steps, answer.column);
         std::fs::write(folder.join(name), text.bytes)?;
     }
     std::fs::write(folder.join("answers.txt"), answers)

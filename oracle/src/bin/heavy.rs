@@ -22,7 +22,8 @@ fn write_all(folder: &Path) -> std::io::Result<()> {
     let mut answers = String::new();
     for text in heavy::heavy().into_iter().chain(heavy::small(1, SMALL)) {
         let answer = gate(&text.bytes);
-        answers += &format!("{}.req {} {} {}\n", text.name, answer.answer, answer.place, answer.steps);
+        answers +=
+            &format!("{}.req {} {} {} {}\n", text.name, answer.answer, answer.place, answer.steps, answer.column);
         std::fs::write(folder.join(format!("{}.req", text.name)), text.bytes)?;
     }
     std::fs::write(folder.join("answers.txt"), answers)

@@ -20,7 +20,8 @@ fn answered() -> io::Result<ExitCode> {
     io::stdin().lock().take(limits::FILE as u64 + 1).read_to_end(&mut file)?;
     let answer = gate_by(way, &file);
     let mut out = io::stdout().lock();
-    write!(out, "answer={}\nplace={}\nsteps={}\n", answer.answer, answer.place, answer.steps)?;
+    write!(out, "answer={}\nplace={}\n", answer.answer, answer.place)?;
+    write!(out, "steps={}\ncolumn={}\n", answer.steps, answer.column)?;
     out.flush()?;
     Ok(ExitCode::from(u8::from(answer.answer != 0)))
 }

@@ -2,8 +2,7 @@
 
 use super::document::P1;
 use super::request::Request;
-use super::Text;
-use crate::answers::GateAnswer;
+use super::{Text, Want};
 use crate::limits;
 use crate::tables::{Form, Step};
 
@@ -312,7 +311,7 @@ fn numbers() -> Vec<Text> {
         let text = |word: &str, place: usize| Text {
             name: format!("d-{word}-{number}"),
             bytes: P1.replacen(&format!("{word} 0"), &format!("{word} {number}"), 1).into_bytes(),
-            want: Some(GateAnswer { answer, place, steps }),
+            want: Some(Want::new(answer, place, steps)),
         };
         texts.extend([text("use", of_use), text("to", of_to)]);
     }
@@ -324,7 +323,7 @@ fn files() -> Vec<Text> {
     let text = |name: &str, bytes: Vec<u8>, answer: u8, place: usize| Text {
         name: format!("d-file-{name}-{}", bytes.len()),
         bytes,
-        want: Some(GateAnswer { answer, place, steps: 0 }),
+        want: Some(Want::new(answer, place, 0)),
     };
     let mut texts = Vec::new();
     for length in [limits::FILE - 1, limits::FILE, limits::FILE + 1, limits::FILE + 2, 2 * limits::FILE] {

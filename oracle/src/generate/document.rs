@@ -1,7 +1,6 @@
 //! The cases that document 01 spells out, with its answers.
 
-use super::Text;
-use crate::answers::GateAnswer;
+use super::{Text, Want};
 
 /// Case P1, whole.
 pub const P1: &str = "version=1
@@ -47,8 +46,15 @@ pub fn text(forms: &str, policy: &str, steps: &str) -> String {
 
 /// A text with its answer.
 pub fn case(name: &str, text: impl Into<Vec<u8>>, answer: u8, place: usize, steps: usize) -> Text {
-    let want = Some(GateAnswer { answer, place, steps });
+    let want = Some(Want::new(answer, place, steps));
     Text { name: format!("d-{name}"), bytes: text.into(), want }
+}
+
+impl Text {
+    /// The text with the column that it wants.
+    pub fn at_column(self, column: usize) -> Text {
+        Text { want: self.want.map(|want| want.at_column(column)), ..self }
+    }
 }
 
 /// P1 to P12.
@@ -86,8 +92,8 @@ pub fn further() -> Vec<Text> {
         tower(32, 0, 0),
         tower(63, 0, 0),
         tower(64, 10, 64),
-        case("further-empty", "", 2, 1, 0),
-        case("further-cr-lf", P1.replace('\n', "\r\n"), 2, 1, 0),
+        case("further-empty", "", 2, 1, 0).at_column(1),
+        case("further-cr-lf", P1.replace('\n', "\r\n"), 2, 1, 0).at_column(10),
         case("further-principals-17", P1.replace("principals=2", "principals=17"), 3, 2, 0),
         case("further-imp-2-0", P1.replace("imp 1 0", "imp 2 0"), 4, 7, 0),
         case("further-end", format!("{P1}end"), 6, 23, 0),
@@ -107,7 +113,8 @@ fn tower(height: usize, answer: u8, place: usize) -> Text {
 pub fn cuts() -> Vec<Text> {
     let cut = |end: usize| {
         let lines = P1[..end].matches('\n').count();
-        case(&format!("cut-{end:03}"), &P1[..end], 2, lines + 1, 0)
+        let start = P1[..end].rfind('\n').map_or(0, |at| at + 1);
+        case(&format!("cut-{end:03}"), &P1[..end], 2, lines + 1, 0).at_column(end - start + 1)
     };
     (0..P1.len()).map(cut).collect()
 }

@@ -2,8 +2,7 @@
 
 use super::document::P1;
 use super::prng::Prng;
-use super::Text;
-use crate::answers::GateAnswer;
+use super::{Text, Want};
 
 /// A line of P1 put in place of line `line`, and the refusal met there.
 #[derive(Clone, Debug)]
@@ -38,11 +37,7 @@ fn with_faults(index: usize, faults: &[&Fault]) -> Text {
     // A class fault is made at a formula's line and met at the policy line or goal that names it.
     let place = if first.refusal == 5 { class_place(first.line) } else { first.line };
     let bytes = lines.into_iter().flat_map(|line| [line, vec![b'\n']].concat()).collect();
-    Text {
-        name: format!("d-fault-{index:04}"),
-        bytes,
-        want: Some(GateAnswer { answer: first.refusal, place, steps: 0 }),
-    }
+    Text { name: format!("d-fault-{index:04}"), bytes, want: Some(Want::new(first.refusal, place, 0)) }
 }
 
 /// P1's lines that hold one number, with their keys.
@@ -138,7 +133,7 @@ fn whole_files() -> Vec<Text> {
     let text = |name: &str, bytes: Vec<u8>, answer: u8, place: usize| Text {
         name: format!("d-whole-{name}"),
         bytes,
-        want: Some(GateAnswer { answer, place, steps: 0 }),
+        want: Some(Want::new(answer, place, 0)),
     };
     let p1 = P1.as_bytes();
     let with = |from: &str, to: &str| P1.replacen(from, to, 1).into_bytes();

@@ -3,8 +3,7 @@
 use super::document::P1;
 use super::prng::Prng;
 use super::request::Request;
-use super::Text;
-use crate::answers::GateAnswer;
+use super::{Text, Want};
 use crate::limits;
 use crate::tables::{Form, Step};
 
@@ -26,7 +25,7 @@ pub fn small(seed: u64, count: usize) -> impl Iterator<Item = Text> {
     (0..count).map(move |index| {
         let mut text = super::derive::derived(&mut Prng::new(seed, index as u64)).wanting("", 0, 0);
         if index % 2 == 0 || text.bytes.len() > 2 * P1.len() {
-            text = Text { want: Some(GateAnswer { answer: 0, place: 0, steps: 7 }), bytes: P1.into(), ..text }
+            text = Text { want: Some(Want::new(0, 0, 7)), bytes: P1.into(), ..text }
         }
         Text { name: format!("h-small-{index:06}"), ..text }
     })

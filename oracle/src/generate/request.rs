@@ -1,7 +1,7 @@
 //! A request under construction, of any size, and its text and tables.
 
-use super::Text;
-use crate::answers::{is_unread, GateAnswer};
+use super::{Text, Want};
+use crate::answers::is_unread;
 use crate::limits;
 use crate::tables::{Counts, Form, Operand, Step, KINDS, STEPS};
 
@@ -89,7 +89,7 @@ impl Request {
     /// The text with an answer that is known from how it was made.
     pub fn wanting(&self, name: impl Into<String>, answer: u8, place: usize) -> Text {
         let steps = if is_unread(answer) { 0 } else { self.steps.len() };
-        Text { want: Some(GateAnswer { answer, place, steps }), ..self.named(name) }
+        Text { want: Some(Want::new(answer, place, steps)), ..self.named(name) }
     }
 }
 

@@ -6,7 +6,8 @@ use native.Mathlib.Numerals.{add-one}
 use mathlib.Core.Path.{_≡_, refl, ap, sym, _∙_}
 use lib.ListN.{length, drop, getD}
 use Rattle.scope.specs.File.Number.{digits}
-use Rattle.lines.specs.Stop.{digitsUpTo, most-five, digit-is, digit-low, digit-high, digits-goes, counts-on, counts-start}
+use Rattle.scope.specs.File.Stops.{digitsUpTo}
+use Rattle.lines.specs.Stop.{most-five, digit-is, digit-low, digit-high, digits-goes, counts-on, counts-start}
 use Rattle.lines.specs.Answers.{bad-long, bad-digit, bad-empty, good-number}
 use borrow.Author.Needs.{needs}
 use native.Mathlib.Omega.{arith}

@@ -1,11 +1,25 @@
--- 'What comes back': a refusal number of document 01, 0 where there is none, and its place. Reader, checks, writer, judge and gate all answer by it.
+-- 'What comes back': a refusal number of document 01, 0 where there is none, its place, and the column that d) of document 02 adds. Reader,
+-- checks, writer, judge and gate all answer by it.
 use Prim.Native.Nat.{ℕ}
+use mathlib.Core.Bool.{cond}
+use lib.Dec.{eqb}
 
 pub data Answer : Type 0 where
-  answer : ℕ → ℕ → Answer
+  told : ℕ → ℕ → ℕ → Answer
+
+-- 'For all other answers it is 0.'
+abbrev pub answer : ℕ → ℕ → Answer
+answer k place = told k place 0
+
+-- 'for refusal 2 the column'
+unfoldable pub columnFor : ℕ → ℕ → ℕ
+columnFor k column = cond (eqb k 2) column 0
 
 unfoldable pub refusalIn : Answer → ℕ
-refusalIn (answer k p) = k
+refusalIn (told k p c) = k
 
 unfoldable pub placeIn : Answer → ℕ
-placeIn (answer k p) = p
+placeIn (told k p c) = p
+
+unfoldable pub columnIn : Answer → ℕ
+columnIn (told k p c) = c

@@ -5,7 +5,7 @@ use mathlib.Core.Bool.{cond}
 use lib.Dec.{leb}
 use lib.ListN.{length}
 use Rattle.scope.specs.File.Request.{Request}
-use Rattle.scope.specs.Call.Answer.{Answer, answer}
+use Rattle.scope.specs.Call.Answer.{Answer, told, answer}
 use Rattle.scope.specs.Limits.{mostBytes}
 use Rattle.scope.specs.File.Text.{requestText}
 use Rattle.scope.specs.File.Reader.{Outcome, read, refused, readRequest}
@@ -54,8 +54,8 @@ pub data Written : Type 0 where
 
 -- 'then 14': the output is shorter than the text.
 unfoldable pub writtenIf : Answer → List ℕ → ℕ → Written
-writtenIf (answer zero place) s len = cond (leb (length s) len) (written s) (unwritten (answer 14 0))
-writtenIf (answer (suc k) place) s len = unwritten (answer (suc k) place)
+writtenIf (told zero place column) s len = cond (leb (length s) len) (written s) (unwritten (answer 14 0))
+writtenIf (told (suc k) place column) s len = unwritten (told (suc k) place column)
 
 -- The output has length len.
 unfoldable pub writing : Lent → ℕ → Written

@@ -7,7 +7,7 @@ use lib.Dec.{eqb}
 use lib.ListN.{length, drop}
 use Rattle.scope.specs.Logic.Form.{both}
 use Rattle.scope.specs.File.Request.{Request}
-use Rattle.scope.specs.Call.Answer.{Answer, answer}
+use Rattle.scope.specs.Call.Answer.{Answer, told, answer}
 use Rattle.scope.specs.File.Bytes.{joined}
 use Rattle.scope.specs.Limits.{principalsAt, atomsAt, formulasAt, formAt, clausesAt, clauseAt, goalAt, stepsAt, stepAt}
 use Rattle.scope.specs.File.Refusals.{demand, countRefusal, principalsRefusal, atomsRefusal, formulasRefusal, formRefusal, clausesRefusal, clauseRefusal, goalRefusal, stepsRefusal, stepRefusal}
@@ -16,8 +16,8 @@ use Rattle.scope.specs.Call.Tables.{Lent, hasRoom, requestOf}
 -- 'The first met is the answer, with no other given.' An answer numbered 0 is no refusal.
 unfoldable pub firstMet : List Answer → Answer
 firstMet [] = answer 0 0
-firstMet (answer zero place ∷ more) = firstMet more
-firstMet (answer (suc k) place ∷ more) = answer (suc k) place
+firstMet (told zero place column ∷ more) = firstMet more
+firstMet (told (suc k) place column ∷ more) = told (suc k) place column
 
 -- The answer about each of several things, in the light of those before it.
 unfoldable pub eachOf : {A : Type 0} → (List A → A → Answer) → List A → List A → List Answer

@@ -4,7 +4,7 @@ use mathlib.Core.List.{List, [], _∷_, map}
 use lib.ListN.{length}
 use Rattle.scope.specs.Logic.Form.{Form}
 use Rattle.scope.specs.File.Request.{Request, formula}
-use Rattle.scope.specs.Call.Answer.{Answer, answer}
+use Rattle.scope.specs.Call.Answer.{Answer, told}
 use Rattle.scope.specs.Limits.{mostFormulas, mostPolicyLines, mostSteps}
 use Rattle.scope.specs.Logic.Obligation.{Obligation, Step, stepOf, start}
 use Rattle.scope.specs.Logic.Room.{within}
@@ -38,20 +38,20 @@ stepsAnswer q = walk within 0 (startOf q ∷ []) (stepsOf q)
 
 -- The first met is the answer.
 unfoldable pub else : Answer → Answer → Answer
-else (answer zero place) next = next
-else (answer (suc k) place) next = answer (suc k) place
+else (told zero place column) next = next
+else (told (suc k) place column) next = told (suc k) place column
 
 -- 'The judge takes the same tables and counts, gives the writer's refusals without 14 in that same order, and then the answers about steps.'
 unfoldable pub judge : Lent → Answer
 unfolding checked requestOf stepsAnswer else
 judge t = else (checked t) (stepsAnswer (requestOf t))
 
--- 'it prints the refusal number, the place, and the steps read (0 if reading is refused)'
+-- 'it prints the refusal number, the place, and the steps read (0 if reading is refused)'; and the column, as d) of document 02 asks
 pub data Printed : Type 0 where
-  prints : ℕ → ℕ → ℕ → Printed
+  prints : ℕ → ℕ → ℕ → ℕ → Printed
 
 unfoldable pub printed : Answer → ℕ → Printed
-printed (answer k place) steps = prints k place steps
+printed (told k place column) steps = prints k place steps column
 
 unfoldable pub printedAfter : Outcome → Printed
 unfolding printed stepsAnswer

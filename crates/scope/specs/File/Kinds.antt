@@ -10,6 +10,7 @@ use Rattle.scope.specs.Logic.Form.{both}
 use Rattle.scope.specs.File.Request.{Row}
 use Rattle.scope.specs.File.Bytes.{bytes}
 use Rattle.scope.specs.File.Number.{number, numeral}
+use Rattle.scope.specs.File.Stops.{wordStop, itemsStop, larger}
 use Rattle.scope.specs.File.Line.{Shape}
 
 -- 'The numbers of worlds, principals, atoms, formulas and clauses count separate things.'
@@ -135,5 +136,15 @@ unfolding kindIn spaced numeral
 rowText ks r =
     spaced (kindIn ks (r .kind) .word) (map numeral (take (length (kindIn ks (r .kind) .operands)) (operandsOf r)))
 
+-- How many bytes can stand as a kind's word with its items and the LF, and that of the kind that goes furthest.
+unfoldable pub kindStop : Kind → List ℕ → ℕ
+unfolding wordStop itemsStop
+kindStop c s = wordStop (c .word) (itemsStop (length (c .operands))) s
+
+unfoldable pub kindsStop : List Kind → List ℕ → ℕ
+unfolding larger kindStop
+kindsStop [] s = 0
+kindsStop (c ∷ cs) s = larger (kindStop c s) (kindsStop cs s)
+
 abbrev pub rowShape : List Kind → Shape Row
-rowShape ks = record { thing = rowIn ks; text = rowText ks }
+rowShape ks = record { thing = rowIn ks; text = rowText ks; stop = kindsStop ks }

@@ -5,13 +5,16 @@ use mathlib.Core.Bool.{cond}
 use mathlib.Core.Option.{Option, none, some}
 use lib.Dec.{eqb}
 use lib.ListN.{length}
-use Rattle.scope.specs.Call.Answer.{Answer, answer}
+use Rattle.scope.specs.Call.Answer.{Answer, told, columnFor}
 use Rattle.scope.specs.File.Bytes.{joined}
+use Rattle.scope.specs.File.Stops.{wordStop}
 
--- How the value of a line is written: the thing that a value in shape stands for, and the text of a thing.
+-- How the value of a line is written: the thing that a value in shape stands for, the text of a thing, and how many bytes of a text can
+-- stand as a value and its LF.
 pub record Shape (A : Type 0) : Type 0 where
   pub thing : List ℕ → Option A
   pub text : A → List ℕ
+  pub stop : List ℕ → ℕ
 
 -- What a line looks like: its key, equals sign included, and the shape of its value.
 pub record Line (A : Type 0) : Type 0 where
@@ -67,19 +70,25 @@ unfolding shapedAs
 valued l refusal none = out 2
 valued l refusal (some v) = shapedAs refusal (l .shape .thing v)
 
-unfoldable pub placed : {A : Type 0} → ℕ → Value A → List ℕ → Read A
-placed i (val a) rest = ok a rest
-placed i (out k) rest = bad (answer k i)
+unfoldable pub placed : {A : Type 0} → ℕ → ℕ → Value A → List ℕ → Read A
+unfolding columnFor
+placed i column (val a) rest = ok a rest
+placed i column (out k) rest = bad (told k i (columnFor k column))
 
-unfoldable pub lineOf : {A : Type 0} → Line A → (A → ℕ) → ℕ → Cut → Read A
+unfoldable pub lineOf : {A : Type 0} → Line A → (A → ℕ) → ℕ → ℕ → Cut → Read A
 unfolding strip valued placed
-lineOf l refusal i uncut = bad (answer 2 i)
-lineOf l refusal i (parts s rest) = placed i (valued l refusal (strip (l .key) s)) rest
+lineOf l refusal i column uncut = bad (told 2 i column)
+lineOf l refusal i column (parts s rest) = placed i column (valued l refusal (strip (l .key) s)) rest
 
--- Line number i of the text: missing, out of shape or without LF is 2.
+-- How many bytes can stand at the front of a text where this line is to stand.
+unfoldable pub lineStop : {A : Type 0} → Line A → List ℕ → ℕ
+unfolding wordStop
+lineStop l s = wordStop (l .key) (l .shape .stop) s
+
+-- Line number i of the text: missing, out of shape or without LF is 2, and the column is the next after the bytes that can stand.
 unfoldable pub line : {A : Type 0} → Line A → (A → ℕ) → ℕ → Reader A
-unfolding cut lineOf
-line l refusal i s = lineOf l refusal i (cut 10 s)
+unfolding cut lineOf lineStop
+line l refusal i s = lineOf l refusal i (suc (lineStop l s)) (cut 10 s)
 
 unfoldable pub lineText : {A : Type 0} → Line A → A → List ℕ
 lineText l a = l .key ++ l .shape .text a ++ 10 ∷ []

@@ -7,7 +7,8 @@ use Rattle.scope.specs.File.Request.{Row, Request}
 use Rattle.scope.specs.File.Number.{number}
 use Rattle.scope.specs.File.Line.{Read, ok, bad, Reader, line, counted, done, _>>=_}
 use Rattle.scope.specs.Limits.{versionAt, principalsAt, atomsAt, formulasAt, formAt, clausesAt, clauseAt, goalAt, stepsAt, stepAt, endAt}
-use Rattle.scope.specs.File.Kinds.{formKinds, stepKinds, rowIn}
+use Rattle.scope.specs.File.Stops.{digitsStop, endStop}
+use Rattle.scope.specs.File.Kinds.{formKinds, stepKinds, rowIn, kindsStop}
 use Rattle.scope.specs.File.Refusals.{countRefusal, versionRefusal, principalsRefusal, atomsRefusal, formulasRefusal, formRefusal, clausesRefusal, clauseRefusal, goalRefusal, stepsRefusal, stepRefusal}
 use Rattle.scope.specs.File.Text.{versionLine, principalsLine, atomsLine, formulasLine, formLine, clausesLine, clauseLine, goalLine, stepsLine, stepLine}
 
@@ -26,7 +27,7 @@ abbrev pub stepItem : ℕ → ℕ → List Row → Reader Row
 stepItem formulas clauses before = line stepLine stepRefusal (stepAt formulas clauses (suc (length before)))
 
 unfoldable pub requestLines : Reader Request
-unfolding line counted _>>=_ number rowIn formKinds stepKinds countRefusal formRefusal clauseRefusal goalRefusal stepRefusal
+unfolding line counted _>>=_ number rowIn digitsStop endStop kindsStop formKinds stepKinds countRefusal formRefusal clauseRefusal goalRefusal stepRefusal
 requestLines = do
   version ← line versionLine versionRefusal versionAt
   principals ← line principalsLine principalsRefusal principalsAt

@@ -5,11 +5,12 @@ use mathlib.Core.List.{List, [], _∷_}
 use Rattle.scope.specs.File.Request.{Row, Request}
 use Rattle.scope.specs.File.Bytes.{bytes, joined}
 use Rattle.scope.specs.File.Number.{number, numeral}
+use Rattle.scope.specs.File.Stops.{digitsStop, endStop}
 use Rattle.scope.specs.File.Line.{Shape, Line, lineText, countedText}
 use Rattle.scope.specs.File.Kinds.{Kind, formKinds, stepKinds, rowText, rowShape}
 
 abbrev pub numberShape : Shape ℕ
-numberShape = record { thing = number; text = numeral }
+numberShape = record { thing = number; text = numeral; stop = digitsStop endStop }
 
 abbrev pub numberLine : String → Line ℕ
 numberLine key = record { key = bytes key; shape = numberShape }

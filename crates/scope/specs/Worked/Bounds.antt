@@ -113,7 +113,7 @@ unfolding stepsAnswer pushed
 clauses-hold = refl
 
 -- A file of 65,536 bytes, and one of a byte more.
-pub bytes-hold : gate (replicate 65536 120) ∷ gate (replicate 65537 120) ∷ [] ≡ prints 2 1 0 ∷ prints 1 0 0 ∷ []
+pub bytes-hold : gate (replicate 65536 120) ∷ gate (replicate 65537 120) ∷ [] ≡ prints 2 1 0 1 ∷ prints 1 0 0 0 ∷ []
 unfolding gate
 bytes-hold = refl
 
@@ -164,31 +164,31 @@ texts =
 
 pub texts-hold :
     map gate texts
-    ≡ prints 2 1 0 ∷
-    prints 2 1 0 ∷
-    prints 3 1 0 ∷
-    prints 3 2 0 ∷
-    prints 3 2 0 ∷
-    prints 3 3 0 ∷
-    prints 3 3 0 ∷
-    prints 3 4 0 ∷
-    prints 3 4 0 ∷
-    prints 2 5 0 ∷
-    prints 3 6 0 ∷
-    prints 2 7 0 ∷
-    prints 3 8 0 ∷
-    prints 3 8 0 ∷
-    prints 2 9 0 ∷
-    prints 3 9 0 ∷
-    prints 7 1 1 ∷
-    prints 3 5 0 ∷
-    prints 4 5 0 ∷
-    prints 5 7 0 ∷
-    prints 5 10 0 ∷
-    prints 6 10 0 ∷
-    prints 6 10 0 ∷
-    prints 8 1 1 ∷
-    prints 7 2 2 ∷
+    ≡ prints 2 1 0 1 ∷
+    prints 2 1 0 10 ∷
+    prints 3 1 0 0 ∷
+    prints 3 2 0 0 ∷
+    prints 3 2 0 0 ∷
+    prints 3 3 0 0 ∷
+    prints 3 3 0 0 ∷
+    prints 3 4 0 0 ∷
+    prints 3 4 0 0 ∷
+    prints 2 5 0 1 ∷
+    prints 3 6 0 0 ∷
+    prints 2 7 0 1 ∷
+    prints 3 8 0 0 ∷
+    prints 3 8 0 0 ∷
+    prints 2 9 0 1 ∷
+    prints 3 9 0 0 ∷
+    prints 7 1 1 0 ∷
+    prints 3 5 0 0 ∷
+    prints 4 5 0 0 ∷
+    prints 5 7 0 0 ∷
+    prints 5 10 0 0 ∷
+    prints 6 10 0 0 ∷
+    prints 6 10 0 0 ∷
+    prints 8 1 1 0 ∷
+    prints 7 2 2 0 ∷
     []
 unfolding gate texts
 texts-hold = refl

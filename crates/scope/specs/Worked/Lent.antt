@@ -4,7 +4,7 @@ use Prim.Native.Nat.{ℕ}
 use mathlib.Core.Path.{_≡_, refl}
 use mathlib.Core.List.{List, [], _∷_, _++_, map}
 use lib.ListN.{replicate}
-use Rattle.scope.specs.Call.Answer.{answer}
+use Rattle.scope.specs.Call.Answer.{told, answer}
 use Rattle.scope.specs.File.Bytes.{bytes}
 use Rattle.scope.specs.File.Reader.{refused}
 use Rattle.scope.specs.Call.Tables.{Lent, padded}
@@ -132,8 +132,8 @@ what-is-read = refl
 
 -- After a refusal, whatever it is: counts, goal and tables are 0.
 pub nothing-is-read :
-    (k place : ℕ)
-    → lentAfter 3 2 4 (refused (answer k place))
+    (k place column : ℕ)
+    → lentAfter 3 2 4 (refused (told k place column))
     ≡ record {
       principals = 0;
       atoms = 0;
@@ -146,4 +146,4 @@ pub nothing-is-read :
       stepTable = 0 ∷ 0 ∷ 0 ∷ 0 ∷ [];
     }
 unfolding lentAfter
-nothing-is-read k place = refl
+nothing-is-read k place column = refl

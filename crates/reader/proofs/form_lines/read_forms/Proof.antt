@@ -10,7 +10,9 @@ use Rattle.lines.specs.Values.{Behind}
 use Rattle.refusals.specs.Rows.{row}
 use Rattle.numbering.specs.Slots.{placeIn, keptAt}
 use Rattle.reader.specs.declared.RowLine.the-variants as RowLine
-use Rattle.reader.specs.Answers.{refusalIs, rowRefused}
+use Rattle.scope.specs.File.Text.{formLine}
+use Rattle.common.specs.Answers.{answerOf}
+use Rattle.reader.specs.Answers.{refusedAt, rowRefused}
 use Rattle.reader.specs.NewRows.{slotsAfter, slots-kept}
 use Rattle.reader.specs.Turns.{turns-end, Line-asked}
 use Rattle.reader.specs.FormTurns.{FormTurns, forms-begin, formAsked, form-stops, form-behind, forms-more}
@@ -96,7 +98,7 @@ returns c =
     (c .before .before .before .before .before .before .before .before .before .before .loop .inv) (c .before .before .before .before .before .before .before .before .before .loop-test .taken)
     (line (c .before .before .before .before))
     (c .before .before .enum-told .given .0 .0) (c .before .before .enum-told .given .1) (c .row-refused .result)
-    (c .row-refused .ensures ∙ (λ j. refusalIs (rowRefused (c .before .before .enum-told .given .1 j)) (c .before .form-at .ensures j)))
+    (c .row-refused .ensures ∙ (λ j. answerOf (refusedAt formLine (rowRefused (c .before .before .enum-told .given .1 j)) (c .before .form-at .ensures j) (c .before .before .before .before .before .before .before .before .before .before .loop .rest .now))))
 
 cast-at : tie.Need-cast-at Inv-loop μ-loop
 cast-at c = omega (arith, few c)

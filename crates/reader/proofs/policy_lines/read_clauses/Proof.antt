@@ -6,8 +6,10 @@ use lib.ListN.{length}
 use Rattle.scope.specs.Limits.{mostPolicyLines}
 use Rattle.scope.specs.Call.Tables.{policyEntry}
 use Rattle.lines.specs.Values.{Behind}
+use Rattle.scope.specs.File.Text.{clauseLine}
+use Rattle.common.specs.Answers.{answerOf}
 use Rattle.reader.specs.Sections.{classedItem}
-use Rattle.reader.specs.Answers.{refusalIs, numberRefusal}
+use Rattle.reader.specs.Answers.{refusedAt, numberRefusal}
 use Rattle.reader.specs.Turns.{Turns, turns-begin, turns-end, Line-asked, clauseAsked, clause-stops, clause-behind, clause-turn}
 use borrow.Author.Needs.{needs}
 use native.Mathlib.Omega.{arith}
@@ -15,11 +17,11 @@ use Rattle.reader.proofs.policy_lines.read_clauses.Statement.{statement
 use Rattle.reader.proofs.policy_lines.read_clauses.Tie as tie
 
 abbrev Inv-loop : tie.InvT-loop
-Inv-loop text formulas classes clauses policy₀ rest₀ i₀ key policy rest i =
+Inv-loop text formulas classes clauses policy₀ rest₀ i₀ key key₂ policy rest i =
     Turns policyEntry (classedItem classes formulas) clauses text (length policy₀) policy rest i
 
 abbrev μ-loop : tie.MeasureT-loop
-μ-loop text formulas classes clauses policy₀ rest₀ i₀ key policy rest i = clauses - i
+μ-loop text formulas classes clauses policy₀ rest₀ i₀ key key₂ policy rest i = clauses - i
 
 -- The line that a turn asks about.
 abbrev line : (c : tie.After-clause-line Inv-loop μ-loop) → Line-asked "clause="
@@ -78,20 +80,23 @@ enum-known-got c = search needs
 enum-told : tie.Need-enum-told Inv-loop μ-loop
 enum-told c = search needs
 
+slice-aggregate-number-refused : tie.Need-slice-aggregate-number-refused Inv-loop μ-loop
+slice-aggregate-number-refused c = search needs
+
 number-refused-requires : tie.Need-number-refused-requires Inv-loop μ-loop
-number-refused-requires c κs = search needs
+number-refused-requires c κs = omega arith
 
 same-length : tie.Need-same-length Inv-loop μ-loop
-same-length c = c .before .before .before .before .before .before .before .before .loop .inv .long
+same-length c = c .before .before .before .before .before .before .before .before .before .loop .inv .long
 
 returns : tie.Need-returns Inv-loop μ-loop
 returns c =
-    clause-stops (c .before .before .before .before .before .before .before .before .before .before .before .before .args .classes .now)
-    (c .before .before .before .before .before .before .before .before .before .before .before .before .args .formulas)
-    (c .before .before .before .before .before .before .before .before .loop .inv) (c .before .before .before .before .before .before .before .loop-test .taken)
-    (line (c .before .before .before .before))
-    (c .before .before .enum-told .given .0 .0) (c .before .before .enum-told .given .1) (c .number-refused .result)
-    (c .number-refused .ensures ∙ (λ j. refusalIs (numberRefusal (c .before .before .enum-told .given .1 j)) (c .before .clause-at .ensures j)))
+    clause-stops (c .before .before .before .before .before .before .before .before .before .before .before .before .before .args .classes .now)
+    (c .before .before .before .before .before .before .before .before .before .before .before .before .before .args .formulas)
+    (c .before .before .before .before .before .before .before .before .before .loop .inv) (c .before .before .before .before .before .before .before .before .loop-test .taken)
+    (line (c .before .before .before .before .before))
+    (c .before .before .before .enum-told .given .0 .0) (c .before .before .before .enum-told .given .1) (c .number-refused .result)
+    (c .number-refused .ensures ∙ (λ j. answerOf (refusedAt clauseLine (numberRefusal (c .before .before .before .enum-told .given .1 j)) (c .before .before .clause-at .ensures j) (c .before .before .before .before .before .before .before .before .before .loop .rest .now))))
 
 cast-at : tie.Need-cast-at Inv-loop μ-loop
 cast-at c = omega (arith, few c)
@@ -156,6 +161,7 @@ read-clauses-spec =
     enum-known-got
     enum-told
     (λ c κs. search needs)
+    slice-aggregate-number-refused
     number-refused-requires
     same-length
     returns

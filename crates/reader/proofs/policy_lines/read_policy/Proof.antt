@@ -7,13 +7,16 @@ use Rattle.scope.specs.File.Number.{number}
 use Rattle.scope.specs.Limits.{mostPolicyLines, clausesAt, goalAt}
 use Rattle.scope.specs.Call.Tables.{unpack, formEntry, policyEntry}
 use Rattle.lines.specs.Parts.{valueOf}
+use Rattle.scope.specs.File.Text.{clausesLine, goalLine}
+use Rattle.common.specs.Answers.{answerOf}
 use Rattle.reader.specs.Sections.{policyPart}
-use Rattle.reader.specs.Answers.{policyCounts, refusalIs, numberRefusal, sectionRefused}
+use Rattle.reader.specs.Answers.{policyCounts, refusedAt, numberRefusal, sectionRefused}
 use Rattle.reader.specs.Lines.{count-most}
-use Rattle.reader.specs.Got.{Section-kept, part-refused}
+use Rattle.reader.specs.Got.{partFrom, Section-kept, part-refused}
 use Rattle.reader.specs.Joins.{Clauses-kept, linesRead, clauses-stopped, lines-stopped, lines-place, goal-stopped, goal-inside, policy-joined}
 use Rattle.reader.specs.declared.Part.the-variants as Part
 use borrow.Author.Needs.{needs}
+use native.Mathlib.Omega.{arith}
 use Rattle.reader.proofs.policy_lines.read_policy.Statement.{statement}
 use Rattle.reader.proofs.policy_lines.read_policy.Tie as tie
 
@@ -57,20 +60,23 @@ enum-known-count c = search needs
 enum-told : tie.Need-enum-told
 enum-told c = search needs
 
+slice-aggregate-number-refused : tie.Need-slice-aggregate-number-refused
+slice-aggregate-number-refused c = search needs
+
 number-refused-requires : tie.Need-number-refused-requires
-number-refused-requires c κs = search needs
+number-refused-requires c κs = omega arith
 
 returns : tie.Need-returns
 returns c =
-    let n = c .before .before .before .before .before .before .before .before .before .args .counts .formulas in
-    let t = c .before .before .before .before .before .before .before .before .before .args .text .now in
-    let k = c .before .before .enum-told .given .0 .0 in
-    part-refused (policyCounts (c .before .before .before .before .before .before .before .before .before .args .counts)) (length t)
-    (policyPart (unpack formEntry n (c .before .before .before .before .before .before .before .before .before .args .forms .now)) t)
-    (refusalIs k (clausesAt n))
-    (clauses-stopped (c .before .before .before .before .before .before .before .before .before .args .forms .now) n t k
-    (sym (c .before .before .before .before .count-line .ensures) ∙ c .before .before .enum-told .given .1))
-    (Part.Refused (c .number-refused .result)) (ap Part.Refused (c .number-refused .ensures ∙ (λ j. refusalIs (numberRefusal (c .before .before .enum-told .given .1 j)) (c .before .clauses-at .ensures j))))
+    let n = c .before .before .before .before .before .before .before .before .before .before .args .counts .formulas in
+    let t = c .before .before .before .before .before .before .before .before .before .before .args .text .now in
+    let k = c .before .before .before .enum-told .given .0 .0 in
+    part-refused (policyCounts (c .before .before .before .before .before .before .before .before .before .before .args .counts)) (length t)
+    (policyPart (unpack formEntry n (c .before .before .before .before .before .before .before .before .before .before .args .forms .now)) t)
+    (answerOf (refusedAt clausesLine k (clausesAt n) t))
+    (clauses-stopped (c .before .before .before .before .before .before .before .before .before .before .args .forms .now) n t k
+    (sym (c .before .before .before .before .before .count-line .ensures) ∙ c .before .before .before .enum-told .given .1))
+    (Part.Refused (c .number-refused .result)) (ap Part.Refused (c .number-refused .ensures ∙ (λ j. answerOf (refusedAt clausesLine (numberRefusal (c .before .before .before .enum-told .given .1 j)) (c .before .before .clauses-at .ensures j) t))))
 
 rest-of-requires : tie.Need-rest-of-requires
 rest-of-requires c κs = search needs
@@ -137,26 +143,30 @@ enum-known-last c = search needs
 enum-told-3 : tie.Need-enum-told-3
 enum-told-3 c = search needs
 
+slice-aggregate-number-refused-2 : tie.Need-slice-aggregate-number-refused-2
+slice-aggregate-number-refused-2 c = search needs
+
 number-refused-requires-2 : tie.Need-number-refused-requires-2
-number-refused-requires-2 c κs = search needs
+number-refused-requires-2 c κs = omega arith
 
 same-length-2 : tie.Need-same-length-2
 same-length-2 c = search needs
 
 returns-3 : tie.Need-returns-3
 returns-3 c =
-    let t = c .before .before .before .before .before .before .before .before .before .before .before .before .before .before .before .before .before .before .before .before .before .before .before .before .before .args .text .now in
-    let n = c .before .before .before .before .before .before .before .before .before .before .before .before .before .before .before .before .before .before .before .before .before .before .before .before .before .args .counts .formulas in
-    let place = goalAt n (c .before .before .before .before .before .before .before .before .before .before .before .before .before .before .before .before .before .before .count .given .0 .0) in
-    let k = c .before .before .enum-told3 .given .0 .0 in
-    part-refused (policyCounts (c .before .before .before .before .before .before .before .before .before .before .before .before .before .before .before .before .before .before .before .before .before .before .before .before .before .args .counts)) (length t)
+    let t = c .before .before .before .before .before .before .before .before .before .before .before .before .before .before .before .before .before .before .before .before .before .before .before .before .before .before .args .text .now in
+    let n = c .before .before .before .before .before .before .before .before .before .before .before .before .before .before .before .before .before .before .before .before .before .before .before .before .before .before .args .counts .formulas in
+    let place = goalAt n (c .before .before .before .before .before .before .before .before .before .before .before .before .before .before .before .before .before .before .before .count .given .0 .0) in
+    let third = partFrom (policy (c .before .before .before .before .before .before .before .before .before) .at) (c .before .before .before .before .before .before .before .before .before .before .before .before .before .before .before .before .before .rest-of .result .now) in
+    let k = c .before .before .before .enum-told3 .given .0 .0 in
+    part-refused (policyCounts (c .before .before .before .before .before .before .before .before .before .before .before .before .before .before .before .before .before .before .before .before .before .before .before .before .before .before .args .counts)) (length t)
     (policyPart (unpack formEntry n
-    (c .before .before .before .before .before .before .before .before .before .before .before .before .before .before .before .before .before .before .before .before .before .before .before .before .before .args .forms .now)) t)
-    (refusalIs k place)
-    (goal-stopped (clauses (c .before .before .before .before .before .before .before .before .before .before .before .before .before .before .before))
-    (policy (c .before .before .before .before .before .before .before .before)) k
-    (sym (c .before .before .before .before .goal-line .ensures) ∙ c .before .before .enum-told3 .given .1))
-    (Part.Refused (c .number-refused2 .result)) (ap Part.Refused (c .number-refused2 .ensures ∙ (λ j. refusalIs (numberRefusal (c .before .before .enum-told3 .given .1 j)) (c .before .goal-at .ensures j))))
+    (c .before .before .before .before .before .before .before .before .before .before .before .before .before .before .before .before .before .before .before .before .before .before .before .before .before .before .args .forms .now)) t)
+    (answerOf (refusedAt goalLine k place third))
+    (goal-stopped (clauses (c .before .before .before .before .before .before .before .before .before .before .before .before .before .before .before .before))
+    (policy (c .before .before .before .before .before .before .before .before .before)) k
+    (sym (c .before .before .before .before .before .goal-line .ensures) ∙ c .before .before .before .enum-told3 .given .1))
+    (Part.Refused (c .number-refused2 .result)) (ap Part.Refused (c .number-refused2 .ensures ∙ (λ j. answerOf (refusedAt goalLine (numberRefusal (c .before .before .before .enum-told3 .given .1 j)) (c .before .before .goal-at .ensures j) third))))
 
 rest-of-requires-2 : tie.Need-rest-of-requires-2
 rest-of-requires-2 c κs = search needs
@@ -188,6 +198,7 @@ read-policy-spec =
     enum-known-count
     enum-told
     (λ c κs. search needs)
+    slice-aggregate-number-refused
     number-refused-requires
     returns
     rest-of-requires
@@ -207,6 +218,7 @@ read-policy-spec =
     enum-known-last
     enum-told-3
     (λ c κs. search needs)
+    slice-aggregate-number-refused-2
     number-refused-requires-2
     same-length-2
     returns-3

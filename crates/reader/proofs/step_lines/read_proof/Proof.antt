@@ -7,8 +7,10 @@ use Rattle.scope.specs.File.Number.{number}
 use Rattle.scope.specs.Limits.{mostSteps, stepsAt}
 use Rattle.scope.specs.Call.Tables.{stepEntry}
 use Rattle.lines.specs.Parts.{valueOf}
+use Rattle.scope.specs.File.Text.{stepsLine}
+use Rattle.common.specs.Answers.{answerOf}
 use Rattle.reader.specs.Sections.{stepsPart}
-use Rattle.reader.specs.Answers.{stepsCounts, refusalIs, numberRefusal, sectionRefused}
+use Rattle.reader.specs.Answers.{stepsCounts, refusedAt, numberRefusal, sectionRefused}
 use Rattle.reader.specs.Lines.{count-most}
 use Rattle.reader.specs.Got.{Section-kept, part-refused}
 use Rattle.reader.specs.Turns.{rest-short}
@@ -54,21 +56,24 @@ enum-known-line c = search needs
 enum-told : tie.Need-enum-told
 enum-told c = search needs
 
+slice-aggregate-number-refused : tie.Need-slice-aggregate-number-refused
+slice-aggregate-number-refused c = search needs
+
 number-refused-requires : tie.Need-number-refused-requires
-number-refused-requires c κs = search needs
+number-refused-requires c κs = omega arith
 
 returns : tie.Need-returns
 returns c =
-    let t = c .before .before .before .before .before .before .before .before .args .text .now in
-    let place = stepsAt (c .before .before .before .before .before .before .before .before .args .counts .formulas) (c .before .before .before .before .before .before .before .before .args .counts .policy) in
-    let k = c .before .before .enum-told .given .0 .0 in
-    part-refused (stepsCounts (c .before .before .before .before .before .before .before .before .args .counts)) (length t)
-    (stepsPart (c .before .before .before .before .before .before .before .before .args .counts .formulas)
-    (c .before .before .before .before .before .before .before .before .args .counts .policy) t) (refusalIs k place)
-    (steps-stopped (c .before .before .before .before .before .before .before .before .args .counts .formulas)
-    (c .before .before .before .before .before .before .before .before .args .counts .policy) t k
-    (sym (c .before .before .before .before .count-line .ensures) ∙ c .before .before .enum-told .given .1))
-    (Part.Refused (c .number-refused .result)) (ap Part.Refused (c .number-refused .ensures ∙ (λ j. refusalIs (numberRefusal (c .before .before .enum-told .given .1 j)) (c .before .steps-at .ensures j))))
+    let t = c .before .before .before .before .before .before .before .before .before .args .text .now in
+    let place = stepsAt (c .before .before .before .before .before .before .before .before .before .args .counts .formulas) (c .before .before .before .before .before .before .before .before .before .args .counts .policy) in
+    let k = c .before .before .before .enum-told .given .0 .0 in
+    part-refused (stepsCounts (c .before .before .before .before .before .before .before .before .before .args .counts)) (length t)
+    (stepsPart (c .before .before .before .before .before .before .before .before .before .args .counts .formulas)
+    (c .before .before .before .before .before .before .before .before .before .args .counts .policy) t) (answerOf (refusedAt stepsLine k place t))
+    (steps-stopped (c .before .before .before .before .before .before .before .before .before .args .counts .formulas)
+    (c .before .before .before .before .before .before .before .before .before .args .counts .policy) t k
+    (sym (c .before .before .before .before .before .count-line .ensures) ∙ c .before .before .before .enum-told .given .1))
+    (Part.Refused (c .number-refused .result)) (ap Part.Refused (c .number-refused .ensures ∙ (λ j. answerOf (refusedAt stepsLine (numberRefusal (c .before .before .before .enum-told .given .1 j)) (c .before .before .steps-at .ensures j) t))))
 
 rest-of-requires : tie.Need-rest-of-requires
 rest-of-requires c κs = search needs
@@ -135,6 +140,7 @@ read-proof-spec =
     enum-known-line
     enum-told
     (λ c κs. search needs)
+    slice-aggregate-number-refused
     number-refused-requires
     returns
     rest-of-requires

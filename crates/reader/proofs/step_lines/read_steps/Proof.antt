@@ -7,7 +7,9 @@ use Rattle.scope.specs.Limits.{mostSteps}
 use Rattle.scope.specs.File.Reader.{stepItem}
 use Rattle.scope.specs.Call.Tables.{stepEntry}
 use Rattle.lines.specs.Values.{Behind}
-use Rattle.reader.specs.Answers.{refusalIs, stepRefused}
+use Rattle.scope.specs.File.Text.{stepLine}
+use Rattle.common.specs.Answers.{answerOf}
+use Rattle.reader.specs.Answers.{refusedAt, stepRefused}
 use Rattle.reader.specs.Turns.{Turns, turns-begin, turns-end, Line-asked, stepAsked, step-stops, step-behind, step-turn}
 use borrow.Author.Needs.{needs}
 use native.Mathlib.Omega.{arith}
@@ -88,7 +90,7 @@ returns c =
     (c .before .before .before .before .before .before .before .before .loop .inv) (c .before .before .before .before .before .before .before .loop-test .taken)
     (line (c .before .before .before .before))
     (c .before .before .enum-told .given .0 .0) (c .before .before .enum-told .given .1) (c .step-refused .result)
-    (c .step-refused .ensures ∙ (λ j. refusalIs (stepRefused (c .before .before .enum-told .given .1 j)) (c .before .step-at .ensures j)))
+    (c .step-refused .ensures ∙ (λ j. answerOf (refusedAt stepLine (stepRefused (c .before .before .enum-told .given .1 j)) (c .before .step-at .ensures j) (c .before .before .before .before .before .before .before .before .loop .rest .now))))
 
 pair-of-requires : tie.Need-pair-of-requires Inv-loop μ-loop
 pair-of-requires c κs = search needs
