@@ -8,6 +8,7 @@
  *   - a pointer points to as many elements as the length after it says, aligned for them, and is never null, not even where
  *     the length is 0;
  *   - what a call writes to overlaps nothing else that the call is given;
+ *   - the logic that goes with tables is PERADUKSI_LOGIC_PLAIN or PERADUKSI_LOGIC_UNIT;
  *   - the thread has stack left for the call, PERADUKSI_STACK bytes: a call does not ask whether it has, and one that runs past
  *     the end of its stack ends the program with a fault. The main thread has it; for a thread of yours see its stack size.
  *
@@ -41,7 +42,8 @@ enum peraduksi_refusal {
     PERADUKSI_STILL_OPEN = 12,          /* steps end with something open: steps + 1 */
     PERADUKSI_TABLE_TOO_SHORT = 13,     /* lent table too short: place 0 */
     PERADUKSI_OUTPUT_TOO_SHORT = 14,    /* output too short: place 0 */
-    PERADUKSI_REPEATED = 15             /* formula that stands on an earlier line already: line */
+    PERADUKSI_REPEATED = 15,            /* formula that stands on an earlier line already: line */
+    PERADUKSI_UNIT_IN_VERSION_1 = 16    /* unit told with version 1, of tables only: place 0 */
 };
 
 /* The kinds of formula, with their operands. */
@@ -78,9 +80,20 @@ enum peraduksi_step {
     PERADUKSI_STEP_NOTE = 17
 };
 
+/* The versions of the request file. */
+enum peraduksi_version {
+    PERADUKSI_VERSION_1 = 1,            /* has no line for the logic, and means plain */
+    PERADUKSI_VERSION_2 = 2             /* says its logic on its second line; every later line is one further down */
+};
+
+/* The logics by which a request is judged. */
+enum peraduksi_logic {
+    PERADUKSI_LOGIC_PLAIN = 0,
+    PERADUKSI_LOGIC_UNIT = 1            /* with the unit law, by which p implies A says p; of version 2 only */
+};
+
 /* What is allowed. */
 enum peraduksi_limit {
-    PERADUKSI_VERSION = 1,
     PERADUKSI_MOST_BYTES = 65536,       /* of a file */
     PERADUKSI_MOST_PRINCIPALS = 16,
     PERADUKSI_MOST_ATOMS = 256,
@@ -106,8 +119,11 @@ enum peraduksi_stack {
     PERADUKSI_STACK = 98304
 };
 
-/* The counts and the goal that go with lent tables. */
+/* The version, the logic, the counts and the goal that go with lent tables. A version that is neither of the two is 3 at line 1; the
+   logic is one of the two. */
 struct peraduksi_counts {
+    uint16_t version;
+    uint16_t logic;
     uint16_t principals;
     uint16_t atoms;
     uint16_t formulas;
@@ -117,8 +133,8 @@ struct peraduksi_counts {
 };
 
 /* The column is that of PERADUKSI_OUT_OF_SHAPE, from 1: the first byte of the line at which it can no longer be a line of the right
-   shape, the LF counted as a byte, or one past the last where the file ends too early; 0 with every other answer. The counts are
-   all 0 after a refusal. */
+   shape, the LF counted as a byte, or one past the last where the file ends too early; 0 with every other answer. The counts,
+   with version and logic, are all 0 after a refusal. */
 struct peraduksi_reading {
     uint16_t refusal;
     uint32_t place;
@@ -156,7 +172,8 @@ struct peraduksi_reading peraduksi_read(
     uint16_t *steps, size_t steps_length);
 
 /* Of tables that a caller made, writer and judge ask what the reader's have: a known kind, and 0 for an operand or a number that
-   its kind lacks, or 3 at the line that the text would have; and 0 in every entry past the counts, or 3 at place 0. */
+   its kind lacks, or 3 at the line that the text would have; and 0 in every entry past the counts, or 3 at place 0. Unit told with
+   version 1 is 16, after 13 and before all else. */
 
 /* Writes the request in the tables as text. Bytes past the text are 0; after a refusal the whole output is 0. */
 struct peraduksi_writing peraduksi_write(

@@ -1,8 +1,8 @@
 //! The same call made of the proved library and of the oracle, each with what it answers and what it leaves behind.
 
 use oracle::generate::{Call, Loan};
-use oracle::{Answer, GateAnswer, ReadAnswer, Tables, WriteAnswer};
-use peraduksi::{Counts, Refusal};
+use oracle::{Answer, GateAnswer, Logic, ReadAnswer, Tables, WriteAnswer};
+use peraduksi::{Counts, Refusal, Version};
 
 /// What one side answers to a call of the reader, and the tables it leaves.
 #[derive(Clone, Debug, PartialEq, Eq)]
@@ -24,6 +24,11 @@ pub struct Written {
 pub fn narrow(counts: &oracle::Counts) -> Option<Counts> {
     let of = |count: usize| u16::try_from(count).ok();
     Some(Counts {
+        version: Version(of(counts.version)?),
+        logic: match counts.logic {
+            Logic::Plain => peraduksi::Logic::Plain,
+            Logic::Unit => peraduksi::Logic::Unit,
+        },
         principals: of(counts.principals)?,
         atoms: of(counts.atoms)?,
         formulas: of(counts.formulas)?,
@@ -54,6 +59,11 @@ pub mod ours {
             refusal,
             place,
             column,
+            version: counts.version.0.into(),
+            logic: match counts.logic {
+                peraduksi::Logic::Plain => Logic::Plain,
+                peraduksi::Logic::Unit => Logic::Unit,
+            },
             principals: counts.principals.into(),
             atoms: counts.atoms.into(),
             formulas: counts.formulas.into(),

@@ -1,7 +1,7 @@
 //! Every number that the C header and the Rust crate name, held to the oracle's: kinds by the document's words and their order,
 //! limits, rooms, refusals.
 
-use oracle::tables::{KINDS, STEPS};
+use oracle::tables::{KINDS, LOGICS, STEPS};
 use oracle::{limits, refusal};
 use std::collections::BTreeMap;
 
@@ -50,7 +50,7 @@ fn limits_of_the_document() {
 
 /// The header writes a room as a factor and a limit, or as a limit alone.
 #[test]
-fn rooms_and_version_of_the_header() {
+fn rooms_of_the_header() {
     let most = numbers("PERADUKSI_MOST_");
     let product = |words: &str| -> usize {
         words
@@ -66,7 +66,15 @@ fn rooms_and_version_of_the_header() {
         ("PERADUKSI_STEPS", limits::STEPS_ROOM),
     ];
     assert_eq!(rooms, wanted);
-    assert_eq!(named("PERADUKSI_")["VERSION"], "1");
+}
+
+#[test]
+fn versions_and_logics() {
+    use peraduksi::{Logic, Version};
+    assert_eq!(numbers("PERADUKSI_VERSION_"), [("1".to_owned(), 1), ("2".to_owned(), 2)].into());
+    assert_eq!([Version::ONE, Version::TWO].map(|version| version.0), [1, 2]);
+    assert_eq!(numbers("PERADUKSI_LOGIC_"), by_word(LOGICS.iter().map(|(word, _)| *word)));
+    assert_eq!([Logic::Plain, Logic::Unit].map(|logic| logic as usize), [0, 1]);
 }
 
 #[test]
@@ -93,6 +101,7 @@ fn refusals_of_the_document() {
         ("TABLE_TOO_SHORT", refusal::TABLE_TOO_SHORT, Reason::TableTooShort),
         ("OUTPUT_TOO_SHORT", refusal::OUTPUT_TOO_SHORT, Reason::OutputTooShort),
         ("REPEATED", refusal::REPEATED, Reason::Repeated),
+        ("UNIT_IN_VERSION_1", refusal::UNIT_IN_VERSION_1, Reason::UnitInVersion1),
     ];
     let names = named("PERADUKSI_");
     assert_eq!(names["GRANTED"], "0");

@@ -1,5 +1,7 @@
 //! What comes back: refusal numbers and the answers that carry them.
 
+use crate::tables::Logic;
+
 /// The refusal numbers, named after when they are met.
 pub mod refusal {
     pub const NONE: u8 = 0;
@@ -18,6 +20,7 @@ pub mod refusal {
     pub const TABLE_TOO_SHORT: u8 = 13;
     pub const OUTPUT_TOO_SHORT: u8 = 14;
     pub const REPEATED: u8 = 15;
+    pub const UNIT_IN_VERSION_1: u8 = 16;
 }
 
 /// A refusal number and its place; all zero where nothing is refused.
@@ -40,13 +43,15 @@ pub fn is_unread(refusal: u8) -> bool {
     matches!(refusal, refusal::FILE_TOO_LONG..=refusal::BYTES_AFTER | refusal::REPEATED)
 }
 
-/// The reader's answer; counts and goal are 0 after a refusal.
+/// The reader's answer; version, logic, counts and goal are 0 after a refusal, the logic's 0 being plain.
 #[derive(Clone, Copy, Debug, Default, PartialEq, Eq)]
 pub struct ReadAnswer {
     pub refusal: u8,
     pub place: usize,
     /// For refusal 2 the column of the line, from 1; else 0.
     pub column: usize,
+    pub version: usize,
+    pub logic: Logic,
     pub principals: usize,
     pub atoms: usize,
     pub formulas: usize,

@@ -1,12 +1,12 @@
 //! Lent tables held against the text that they stand for: room, then each line in order, then the entries past the
 //! counts.
 
-use crate::answers::refusal::{NAMES_LATER, OUT_OF_RANGE, TABLE_TOO_SHORT, WRONG_CLASS};
+use crate::answers::refusal::{NAMES_LATER, OUT_OF_RANGE, TABLE_TOO_SHORT, UNIT_IN_VERSION_1, WRONG_CLASS};
 use crate::answers::{refuse, Refused};
 use crate::classes::{class_of, Class};
 use crate::limits;
 use crate::repeats::Repeats;
-use crate::tables::{Counts, Form, Operand, Tables, KINDS, STEPS};
+use crate::tables::{Counts, Form, Logic, Operand, Tables, KINDS, STEPS};
 use std::ops::RangeInclusive;
 
 /// Refusal 13, which comes before any look at counts or entries.
@@ -22,16 +22,21 @@ pub fn check_room(forms: usize, clauses: usize, steps: usize) -> Result<(), Refu
 /// Every refusal that writer and judge share, in their order.
 pub fn check_tables(counts: &Counts, tables: &Tables) -> Result<(), Refused> {
     check_room(tables.forms.len(), tables.clauses.len(), tables.steps.len())?;
+    if (counts.version, counts.logic) == (1, Logic::Unit) {
+        return refuse(UNIT_IN_VERSION_1, 0);
+    }
     check_lines(counts, tables)?;
     check_tails(counts, tables)
 }
 
 fn check_lines(counts: &Counts, tables: &Tables) -> Result<(), Refused> {
-    check_count(counts.principals, 1..=limits::PRINCIPALS, 2)?;
-    check_count(counts.atoms, 1..=limits::ATOMS, 3)?;
-    check_count(counts.formulas, 1..=limits::FORMULAS, 4)?;
+    check_count(counts.version, 1..=2, 1)?;
+    let first = counts.first_line();
+    check_count(counts.principals, 1..=limits::PRINCIPALS, first)?;
+    check_count(counts.atoms, 1..=limits::ATOMS, first + 1)?;
+    check_count(counts.formulas, 1..=limits::FORMULAS, first + 2)?;
     let classes = check_forms(counts, tables.forms)?;
-    let clauses_line = 5 + counts.formulas;
+    let clauses_line = first + 3 + counts.formulas;
     check_count(counts.lines, 0..=limits::LINES, clauses_line)?;
     for (index, &clause) in tables.clauses[..counts.lines].iter().enumerate() {
         check_clause(clause.into(), &classes).or_else(|refusal| refuse(refusal, clauses_line + 1 + index))?;
@@ -60,7 +65,7 @@ fn check_forms(counts: &Counts, forms: &[u16]) -> Result<Vec<Class>, Refused> {
         let (kind, operands) = (entry[0].into(), [entry[1].into(), entry[2].into()]);
         check_form(number, kind, operands, counts.principals, counts.atoms)
             .and_then(|()| repeats.check([entry[0], entry[1], entry[2]]))
-            .or_else(|refusal| refuse(refusal, 5 + number))?;
+            .or_else(|refusal| refuse(refusal, counts.first_line() + 3 + number))?;
         classes.push(class_of(Form::of(kind, operands[0], operands[1]), &classes));
     }
     Ok(classes)

@@ -1,10 +1,12 @@
-//! Facts at the worlds of a sequent, and two ways to have them closed under the nine rules.
+//! Facts at the worlds of a sequent, and two ways to have them closed under the nine rules, and the tenth with the unit law.
 
 pub mod afresh;
 pub mod kept;
 
 pub use afresh::Afresh;
 pub use kept::Kept;
+
+use crate::tables::Logic;
 
 /// Which way the closed facts are had.
 #[derive(Clone, Copy, Debug, PartialEq, Eq)]
@@ -21,7 +23,7 @@ pub trait Facts: Clone {
     type Mark: Clone;
 
     /// The root alone, nothing noted.
-    fn root(principals: usize) -> Self;
+    fn root(logic: Logic, principals: usize) -> Self;
     fn worlds(&self) -> usize;
     /// A new world v with u ≤ v.
     fn add_above(&mut self, u: usize) -> usize;

@@ -9,6 +9,7 @@ pub mod document;
 pub mod faults;
 pub mod heavy;
 pub mod lent;
+pub mod logics;
 pub mod naive;
 pub mod phases;
 pub mod prng;
@@ -62,7 +63,7 @@ impl Want {
 }
 
 /// The files made on purpose: the documents' cases, limits, faulty lines, each step in each phase, classes, formulas
-/// that stand twice, columns, and what is easy to get wrong.
+/// that stand twice, columns, version 2, and what is easy to get wrong.
 pub fn directed() -> Vec<Text> {
     [
         document::numbered(),
@@ -75,16 +76,17 @@ pub fn directed() -> Vec<Text> {
         traps::traps(),
         twice::twice(),
         columns::columns(),
+        logics::logics(),
     ]
     .concat()
 }
 
-/// `count` files: every second one made on purpose until there are no more, the others random.
+/// `count` files: two of three made on purpose until there are no more, the others random.
 pub fn texts(seed: u64, count: usize) -> impl Iterator<Item = Text> {
     let mut on_purpose = directed();
     Prng::new(seed, u64::MAX).shuffle(&mut on_purpose);
     (0..count).map(move |index| {
-        let due = if index % 2 == 0 { on_purpose.pop() } else { None };
+        let due = if index % 3 < 2 { on_purpose.pop() } else { None };
         due.unwrap_or_else(|| random_text(seed, index))
     })
 }

@@ -28,7 +28,7 @@ pub fn judge_with<F: Facts>(counts: &Counts, tables: &Tables) -> Answer {
 
 fn judge_steps<F: Facts>(counts: &Counts, tables: &Tables) -> Result<(), Refused> {
     let policy = &tables.clauses[..counts.lines];
-    let mut walk = Walk::new(Forms(tables.forms), policy, counts.goal, F::root(counts.principals));
+    let mut walk = Walk::new(Forms(tables.forms), policy, counts.goal, F::root(counts.logic, counts.principals));
     for (index, step) in tables.steps.chunks_exact(2).take(counts.steps).enumerate() {
         let step = Step::of(step[0].into(), step[1].into());
         walk.take(step).or_else(|refusal| refuse(refusal, index + 1))?;

@@ -1,4 +1,4 @@
-//! A plain implementation of document 01, with requests b), f), g) and d) of document 02: reader, writer, judge and gate, and a generator of requests to compare
+//! A plain implementation of document 01, with requests b), f), g), d) and l) of document 02: reader, writer, judge and gate, and a generator of requests to compare
 //! another implementation with.
 
 pub mod answers;
@@ -21,5 +21,5 @@ pub use facts::Way;
 pub use gate::{gate, gate_by};
 pub use judge::{judge, judge_by};
 pub use read::read;
-pub use tables::{Counts, Tables};
+pub use tables::{Counts, Logic, Tables};
 pub use write::write;

@@ -7,7 +7,7 @@ use crate::classes::{class_of, Class};
 use crate::limits;
 use crate::repeats::Repeats;
 use crate::shapes::{number_at, Line};
-use crate::tables::{Form, Operand, KINDS, STEPS};
+use crate::tables::{Form, Logic, Operand, KINDS, LOGICS, STEPS};
 use std::ops::RangeInclusive;
 
 /// Reads a request; every refusal leaves each table zero over its whole lent length.
@@ -37,7 +37,10 @@ fn read_request(
         return refuse(FILE_TOO_LONG, 0);
     }
     let mut answer = ReadAnswer::default();
-    lines.count_of("version", 1..=1)?;
+    answer.version = lines.count_of("version", 1..=2)?;
+    if answer.version == 2 {
+        answer.logic = read_logic(lines)?;
+    }
     answer.principals = lines.count_of("principals", 1..=limits::PRINCIPALS)?;
     answer.atoms = lines.count_of("atoms", 1..=limits::ATOMS)?;
     answer.formulas = lines.count_of("formulas", 1..=limits::FORMULAS)?;
@@ -58,6 +61,14 @@ fn read_request(
         return refuse(BYTES_AFTER, lines.line + 1);
     }
     Ok(answer)
+}
+
+fn read_logic(lines: &mut Lines) -> Result<Logic, Refused> {
+    let value = lines.value_of(Line::Logic)?;
+    match LOGICS.iter().find(|(word, _)| word.as_bytes() == value) {
+        Some((_, logic)) => Ok(*logic),
+        None => lines.refuse(OUT_OF_SHAPE),
+    }
 }
 
 fn read_forms(lines: &mut Lines, answer: &ReadAnswer, forms: &mut [u16]) -> Result<Vec<Class>, Refused> {

@@ -1,12 +1,13 @@
 //! The lines of a file as what may stand in them, and how far a text can go along one.
 
-use crate::tables::{Operand, KINDS, STEPS};
+use crate::tables::{Operand, KINDS, LOGICS, STEPS};
 
 /// What stands at a line's place.
 #[derive(Clone, Copy, Debug, PartialEq, Eq)]
 pub enum Line {
     /// A key with one number.
     Number(&'static str),
+    Logic,
     Form,
     Step,
 }
@@ -22,6 +23,7 @@ impl Line {
     pub fn key(self) -> &'static str {
         match self {
             Line::Number(key) => key,
+            Line::Logic => "logic",
             Line::Form => "form",
             Line::Step => "step",
         }
@@ -32,6 +34,7 @@ impl Line {
         let items = |operands: [Operand; 2]| operands.iter().filter(|operand| **operand != Operand::Nothing).count();
         match self {
             Line::Number(key) => vec![vec![bytes(&format!("{key}=")), Piece::Number, bytes("\n")]],
+            Line::Logic => LOGICS.iter().map(|(word, _)| way("logic", word, 0)).collect(),
             Line::Form => KINDS.iter().map(|(word, operands)| way("form", word, items(*operands))).collect(),
             Line::Step => {
                 STEPS.iter().map(|(word, step)| way("step", word, usize::from(step.number().is_some()))).collect()

@@ -2,9 +2,32 @@
 
 use crate::answers::ReadAnswer;
 
-/// The counts and the goal that go with lent tables.
+/// The logic of a request: a file of version 1 means plain, one of version 2 says which.
+#[derive(Clone, Copy, Debug, Default, PartialEq, Eq)]
+pub enum Logic {
+    #[default]
+    Plain,
+    /// p implies A says p: u S_A v gives u ≤ v.
+    Unit,
+}
+
+/// Each logic's word.
+pub const LOGICS: [(&str, Logic); 2] = [("plain", Logic::Plain), ("unit", Logic::Unit)];
+
+impl Logic {
+    pub fn word(self) -> &'static str {
+        match self {
+            Logic::Plain => "plain",
+            Logic::Unit => "unit",
+        }
+    }
+}
+
+/// Version, logic, counts and goal that go with lent tables.
 #[derive(Clone, Copy, Debug, Default, PartialEq, Eq)]
 pub struct Counts {
+    pub version: usize,
+    pub logic: Logic,
     pub principals: usize,
     pub atoms: usize,
     pub formulas: usize,
@@ -16,12 +39,25 @@ pub struct Counts {
 impl From<&ReadAnswer> for Counts {
     fn from(answer: &ReadAnswer) -> Counts {
         Counts {
+            version: answer.version,
+            logic: answer.logic,
             principals: answer.principals,
             atoms: answer.atoms,
             formulas: answer.formulas,
             lines: answer.lines,
             goal: answer.goal,
             steps: answer.steps,
+        }
+    }
+}
+
+impl Counts {
+    /// The line of `principals=`; all that follow are counted from it.
+    pub fn first_line(&self) -> usize {
+        if self.version == 2 {
+            3
+        } else {
+            2
         }
     }
 }

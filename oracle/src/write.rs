@@ -29,7 +29,10 @@ fn text_for(counts: &Counts, tables: &Tables, room: usize) -> Result<Vec<u8>, Re
 /// The text of tables that are known to be in order.
 fn text_of(counts: &Counts, tables: &Tables) -> Vec<u8> {
     let mut text = Vec::new();
-    put_number(&mut text, "version", 1);
+    put_number(&mut text, "version", counts.version);
+    if counts.version == 2 {
+        put_items(&mut text, "logic", counts.logic.word(), std::iter::empty());
+    }
     put_number(&mut text, "principals", counts.principals);
     put_number(&mut text, "atoms", counts.atoms);
     put_number(&mut text, "formulas", counts.formulas);

@@ -1,7 +1,7 @@
 //! The column by the document's words: what a beginning can become is tried, with the reader alone to tell what is in shape.
 
 use oracle::generate::{self, Text};
-use oracle::tables::{Operand, KINDS, STEPS};
+use oracle::tables::{Operand, KINDS, LOGICS, STEPS};
 use oracle::{gate, limits, read, refusal};
 
 /// Whether the line that `before` has ended at is in shape, given the rest of it: the reader does not answer 2 there.
@@ -24,7 +24,8 @@ fn some_lines() -> Vec<String> {
         let items = usize::from(step.number().is_some());
         format!("step={word}{}\n", " 0".repeat(items))
     });
-    numbers.into_iter().chain(forms).chain(steps).collect()
+    let logics = LOGICS.iter().map(|(word, _)| format!("logic={word}\n"));
+    numbers.into_iter().chain(logics).chain(forms).chain(steps).collect()
 }
 
 fn some_ends() -> Vec<Vec<u8>> {
@@ -74,8 +75,9 @@ fn check(texts: impl Iterator<Item = Text>) -> usize {
 
 #[test]
 fn p1_changed_and_cut_at_every_byte() {
-    let checked = check(generate::columns::columns().into_iter().chain(generate::document::cuts()));
-    assert!(checked > 450, "{checked}");
+    let version_2 = generate::logics::logics().into_iter();
+    let checked = check(generate::columns::columns().into_iter().chain(generate::document::cuts()).chain(version_2));
+    assert!(checked > 550, "{checked}");
 }
 
 #[test]

@@ -6,7 +6,7 @@ use oracle::generate::prng::Prng;
 use oracle::generate::{self, Text};
 use oracle::tables::{Forms, Step};
 use oracle::walk::Walk;
-use oracle::{gate, gate_by, limits, read, refusal, Way};
+use oracle::{gate, gate_by, limits, read, refusal, Logic, Way};
 
 #[test]
 fn afresh_and_kept_answer_the_same() {
@@ -16,8 +16,14 @@ fn afresh_and_kept_answer_the_same() {
 }
 
 /// Grows a branch as a walk can: worlds anywhere, notes at the newest world, now and then back to an earlier sequent.
-fn grow_both<F: Facts, G: Facts>(prng: &mut Prng, principals: usize, worlds: usize, compare: impl Fn(&F, &G)) {
-    let (mut one, mut other) = (F::root(principals), G::root(principals));
+fn grow_both<F: Facts, G: Facts>(
+    logic: Logic,
+    prng: &mut Prng,
+    principals: usize,
+    worlds: usize,
+    compare: impl Fn(&F, &G),
+) {
+    let (mut one, mut other) = (F::root(logic, principals), G::root(logic, principals));
     let mut marks = vec![(one.mark(), other.mark())];
     for _ in 0..3 * worlds {
         let (u, a, b) = (prng.below(one.worlds()), prng.below(principals), prng.below(principals));
@@ -62,8 +68,9 @@ fn compare_rows<G: Facts>(one: &Afresh, other: &G, principals: usize) {
 fn bit_rows_are_the_same_as_kept_at_full_size() {
     for index in 0..40 {
         let prng = &mut Prng::new(42, index);
+        let logic = prng.pick(&[Logic::Plain, Logic::Unit]);
         let (principals, worlds) = (prng.pick(&[1, 2, 5, limits::PRINCIPALS]), limits::WORLDS);
-        grow_both(prng, principals, worlds, |one, other: &Kept| compare_rows(one, other, principals));
+        grow_both(logic, prng, principals, worlds, |one, other: &Kept| compare_rows(one, other, principals));
     }
 }
 
@@ -71,8 +78,9 @@ fn bit_rows_are_the_same_as_kept_at_full_size() {
 fn bit_rows_are_the_same_as_one_bool_a_fact() {
     for index in 0..200 {
         let prng = &mut Prng::new(43, index);
+        let logic = prng.pick(&[Logic::Plain, Logic::Unit]);
         let (principals, worlds) = (prng.between(1, 4), prng.between(1, 9));
-        grow_both(prng, principals, worlds, |one, other: &Naive| compare_rows(one, other, principals));
+        grow_both(logic, prng, principals, worlds, |one, other: &Naive| compare_rows(one, other, principals));
     }
 }
 
@@ -86,7 +94,7 @@ fn by_sheet(text: &Text, wrong: Option<Wrong>) -> Option<(usize, bool)> {
     if answer.refusal != refusal::NONE || answer.principals > 4 || answer.steps > 200 || made.count() > 40 {
         return None;
     }
-    let facts = Naive::by(answer.principals, wrong);
+    let facts = Naive::by(answer.logic, answer.principals, wrong);
     let mut walk = Walk::new(Forms(&forms), &clauses[..answer.lines], answer.goal, facts);
     let steps = steps.chunks_exact(2).take(answer.steps);
     let taken = steps.take_while(|step| walk.take(Step::of(step[0].into(), step[1].into())).is_ok()).count();
@@ -110,7 +118,7 @@ fn every_wrong_rule_sheet_is_found_out() {
     let random = (0..2_000).map(|index| generate::random_text(45, index));
     let texts: Vec<Text> = generate::directed().into_iter().chain(random).collect();
     let right: Vec<Option<(usize, bool)>> = texts.iter().map(|text| by_sheet(text, None)).collect();
-    let narrower = (1..=9).map(Wrong::Without).chain([Wrong::Rule6Narrow]);
+    let narrower = (1..=10).map(Wrong::Without).chain([Wrong::Rule6Narrow]);
     for wrong in WRONG.into_iter().chain(narrower) {
         let differs = |(text, right): &(&Text, &Option<(usize, bool)>)| by_sheet(text, Some(wrong)) != **right;
         let found = texts.iter().zip(&right).filter(differs).take(2).count();

@@ -24,7 +24,15 @@ fn refused(refusal: u8, place: usize) -> ReadAnswer {
 fn p1_is_read_into_zeroed_tables() {
     for longer in [0, 1, 50] {
         let (answer, [forms, clauses, steps]) = lend(P1.as_bytes(), 0xffff, ROOM.map(|room| room + longer));
-        let want = ReadAnswer { principals: 2, atoms: 1, formulas: 5, lines: 3, steps: 7, ..ReadAnswer::default() };
+        let want = ReadAnswer {
+            version: 1,
+            principals: 2,
+            atoms: 1,
+            formulas: 5,
+            lines: 3,
+            steps: 7,
+            ..ReadAnswer::default()
+        };
         assert_eq!(answer, want);
         assert_eq!(forms[..15], [0, 0, 0, 6, 0, 0, 5, 1, 0, 7, 1, 0, 6, 1, 0]);
         assert_eq!(clauses[..3], [2, 3, 4]);

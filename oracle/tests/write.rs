@@ -2,7 +2,7 @@
 
 use oracle::generate::document::P1;
 use oracle::generate::{self, Call};
-use oracle::{judge, limits, read, refusal, write, Answer, Counts, WriteAnswer};
+use oracle::{judge, limits, read, refusal, write, Answer, Counts, Logic, WriteAnswer};
 
 /// P1 in tables just long enough.
 fn p1() -> Call {
@@ -109,6 +109,80 @@ fn entries_are_refused_at_their_lines() {
     refuses(3, 18, |call| call.steps[5] = 1);
 }
 
+/// P1 in version 2, with this logic.
+fn told(call: &mut Call, logic: Logic) {
+    call.counts.version = 2;
+    call.counts.logic = logic;
+    call.output += "logic=plain\n".len();
+}
+
+#[test]
+fn version_and_logic_are_written_as_told() {
+    for (logic, line) in [(Logic::Plain, "logic=plain\n"), (Logic::Unit, "logic=unit\n")] {
+        let mut call = p1();
+        told(&mut call, logic);
+        let text = P1.replacen("version=1\n", &format!("version=2\n{line}"), 1);
+        let (answer, out) = write_call(&call);
+        assert_eq!(answer, WriteAnswer { refusal: 0, place: 0, length: text.len() });
+        assert_eq!(&out[..text.len()], text.as_bytes());
+        assert_eq!(judge(&call.counts, &call.tables()), Answer::default());
+        let read_back = read(text.as_bytes(), &mut call.forms, &mut call.clauses, &mut call.steps);
+        assert_eq!(Counts::from(&read_back), call.counts);
+        // 14 counts the longer text.
+        call.output = text.len() - 1;
+        assert_eq!(write_call(&call).0, WriteAnswer { refusal: refusal::OUTPUT_TOO_SHORT, place: 0, length: 0 });
+    }
+}
+
+#[test]
+fn unit_told_with_version_1_comes_after_13_and_before_every_line() {
+    refuses(16, 0, |call| call.counts.logic = Logic::Unit);
+    refuses(16, 0, |call| {
+        call.counts = Counts { version: 1, logic: Logic::Unit, ..Counts::default() };
+        call.forms[3_000] = 1;
+        call.output = 0;
+    });
+    refuses(13, 0, |call| {
+        call.counts.logic = Logic::Unit;
+        call.steps.clear();
+    });
+}
+
+#[test]
+fn a_version_that_is_not_there_is_3_at_line_1_with_either_logic() {
+    for version in [0, 3, 65_535, 65_537, 65_538, usize::MAX] {
+        for logic in [Logic::Plain, Logic::Unit] {
+            refuses(3, 1, |call| call.counts = Counts { version, logic, ..Counts::default() });
+        }
+    }
+}
+
+#[test]
+fn lines_of_version_2_are_one_higher() {
+    for logic in [Logic::Plain, Logic::Unit] {
+        let refuses = |refusal: u8, place: usize, change: &dyn Fn(&mut Call)| {
+            refuses(refusal, place, |call| {
+                told(call, logic);
+                change(call);
+            })
+        };
+        refuses(3, 3, &|call| call.counts.principals = 0);
+        refuses(3, 4, &|call| call.counts.atoms = 257);
+        refuses(3, 5, &|call| call.counts.formulas = 0);
+        refuses(3, 6, &|call| call.forms[0] = 8);
+        refuses(4, 7, &|call| call.forms[5] = 1);
+        refuses(15, 7, &|call| call.forms.copy_within(0..3, 3));
+        refuses(3, 11, &|call| call.counts.lines = 129);
+        refuses(3, 12, &|call| call.clauses[0] = 5);
+        refuses(5, 13, &|call| call.forms[9..12].copy_from_slice(&[2, 0, 0]));
+        refuses(3, 15, &|call| call.counts.goal = 5);
+        refuses(3, 16, &|call| call.counts.steps = 0);
+        refuses(3, 17, &|call| call.steps[0] = 18);
+        refuses(3, 0, &|call| call.forms[3_000] = 1);
+        refuses(13, 0, &|call| call.forms.clear());
+    }
+}
+
 #[test]
 fn a_formula_that_stands_twice_is_refused_at_the_second() {
     let again = |call: &mut Call, from: usize, to: usize| call.forms.copy_within(3 * from..3 * from + 3, 3 * to);
@@ -188,7 +262,7 @@ fn a_tail_comes_before_any_answer_about_a_step() {
 
 #[test]
 fn writer_and_judge_refuse_the_same_tables() {
-    let mut met = [0; 16];
+    let mut met = [0; 17];
     for call in generate::tables(21, 6_000) {
         let (written, out) = write_call(&call);
         let judged = judge(&call.counts, &call.tables());
@@ -201,5 +275,5 @@ fn writer_and_judge_refuse_the_same_tables() {
         assert_eq!(written.length == 0, written.refusal != refusal::NONE, "{}", call.name);
         assert!(out[written.length..].iter().all(|&byte| byte == 0), "{}", call.name);
     }
-    assert!([0, 3, 4, 5, 13, 14, 15].iter().all(|&refusal: &usize| met[refusal] > 20), "{met:?}");
+    assert!([0, 3, 4, 5, 13, 14, 15, 16].iter().all(|&refusal: &usize| met[refusal] > 20), "{met:?}");
 }

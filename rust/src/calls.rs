@@ -1,16 +1,6 @@
 //! The library's functions as they are exported, each called with a slice's own pointer and length.
 
-/// The counts and the goal that go with lent tables.
-#[repr(C)]
-#[derive(Clone, Copy, Debug, Default, PartialEq, Eq)]
-pub struct Counts {
-    pub principals: u16,
-    pub atoms: u16,
-    pub formulas: u16,
-    pub policy: u16,
-    pub goal: u16,
-    pub steps: u16,
-}
+use crate::counts::Counts;
 
 /// What the gate program prints: the answer, its place, the steps read, 0 if reading is refused, and the column of
 /// [`Reason::OutOfShape`](crate::Reason), 0 with every other answer.

@@ -12,9 +12,11 @@
 //! ```
 
 mod calls;
+mod counts;
 mod reasons;
 
-pub use calls::{Counts, Printed};
+pub use calls::Printed;
+pub use counts::{Counts, Logic, Version};
 pub use reasons::{Reason, Refusal};
 
 use reasons::answered;
@@ -40,7 +42,8 @@ pub fn read(text: &[u8], forms: &mut [u16], policy: &mut [u16], steps: &mut [u16
 /// is 0.
 ///
 /// Tables have what the reader's have: a known kind, and 0 for an operand or a number that its kind lacks, or it is refusal 3 at
-/// the line that the text would have; and 0 in every entry past the counts, or it is refusal 3 at place 0.
+/// the line that the text would have; and 0 in every entry past the counts, or it is refusal 3 at place 0. [`Logic::Unit`] goes with
+/// [`Version::TWO`], or it is refusal 16.
 pub fn write(counts: Counts, forms: &[u16], policy: &[u16], steps: &[u16], out: &mut [u8]) -> Result<usize, Refusal> {
     let written = calls::write(counts, forms, policy, steps, out);
     answered(written.refusal, written.place, 0, written.length)

@@ -22,12 +22,13 @@ pub enum Reason {
     TableTooShort = 13,
     OutputTooShort = 14,
     Repeated = 15,
+    UnitInVersion1 = 16,
 }
 
 use Reason::*;
 
 /// Each reason with what it says, by number from 1.
-const REASONS: [(Reason, &str); 15] = [
+const REASONS: [(Reason, &str); 16] = [
     (FileTooLong, "file over 65,536 bytes"),
     (OutOfShape, "line missing, out of shape, or without LF"),
     (OutOfRange, "number outside its range"),
@@ -43,6 +44,7 @@ const REASONS: [(Reason, &str); 15] = [
     (TableTooShort, "lent table too short"),
     (OutputTooShort, "output too short"),
     (Repeated, "formula that stands on an earlier line already"),
+    (UnitInVersion1, "unit law told with version 1"),
 ];
 
 /// A refusal: why, and the line or the step, from 1, or 0 where there is none to name.
@@ -90,11 +92,11 @@ mod tests {
 
     #[test]
     fn each_number_has_its_own_reason() {
-        for number in 1..=15 {
+        for number in 1..=16 {
             let refusal: Refusal = answered(number, 5, 3, ()).unwrap_err();
             assert_eq!((refusal.number(), refusal.place, refusal.column), (number, 5, 3));
         }
         assert_eq!(answered(0, 0, 0, 7), Ok(7));
-        assert_eq!(REASONS.len(), 15);
+        assert_eq!(REASONS.len(), 16);
     }
 }

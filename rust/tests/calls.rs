@@ -1,9 +1,12 @@
 //! Each call once where it grants and once where it refuses, and what it leaves behind.
 
-use peraduksi::{gate, judge, read, write, Counts, Reason, Refusal, FORMS_ROOM, POLICY_ROOM, STACK, STEPS_ROOM};
+use peraduksi::{gate, judge, read, write, Counts, Logic, Reason, Refusal, Version};
+use peraduksi::{FORMS_ROOM, POLICY_ROOM, STACK, STEPS_ROOM};
 
 const GRANTED: &[u8] = include_bytes!("../../examples/granted.req");
 const REFUSED: &[u8] = include_bytes!("../../examples/refused.req");
+const UNIT: &[u8] = include_bytes!("../../examples/unit.req");
+const PLAIN: &[u8] = include_bytes!("../../examples/plain.req");
 
 struct Tables {
     forms: Vec<u16>,
@@ -24,7 +27,8 @@ fn read_into(tables: &mut Tables, file: &[u8]) -> Result<Counts, Refusal> {
 fn reads_judges_and_writes_back() {
     let mut t = lent();
     let counts = read_into(&mut t, GRANTED).expect("it reads");
-    assert_eq!(counts, Counts { principals: 2, atoms: 1, formulas: 5, policy: 3, goal: 0, steps: 7 });
+    let told = Counts { version: Version::ONE, logic: Logic::Plain, ..Counts::default() };
+    assert_eq!(counts, Counts { principals: 2, atoms: 1, formulas: 5, policy: 3, goal: 0, steps: 7, ..told });
     assert_eq!(t.policy[..5], [2, 3, 4, 0, 0]);
     assert_eq!(judge(counts, &t.forms, &t.policy, &t.steps), Ok(()));
     let mut out = vec![7; GRANTED.len() + 2];
@@ -48,6 +52,29 @@ fn a_refused_reading_leaves_zeros() {
     let cut = &GRANTED[..GRANTED.len() - 1];
     assert_eq!(read_into(&mut t, cut), Err(Refusal { reason: Reason::OutOfShape, place: 22, column: 9 }));
     assert!([&t.forms, &t.policy, &t.steps].iter().all(|table| table.iter().all(|&entry| entry == 0)));
+}
+
+#[test]
+fn version_2_says_its_logic() {
+    let mut t = lent();
+    for (file, logic, answer) in [(UNIT, Logic::Unit, 0), (PLAIN, Logic::Plain, 9)] {
+        let mut counts = read_into(&mut t, file).expect("it reads");
+        assert_eq!((counts.version, counts.logic), (Version::TWO, logic));
+        assert_eq!(gate(file).answer, answer);
+        let judged = judge(counts, &t.forms, &t.policy, &t.steps).map_or_else(Refusal::number, |()| 0);
+        assert_eq!(judged, answer);
+        let mut out = vec![7; file.len()];
+        assert_eq!(write(counts, &t.forms, &t.policy, &t.steps, &mut out), Ok(file.len()));
+        assert_eq!(out, file);
+        // Version 1 has plain alone.
+        counts.version = Version::ONE;
+        let wanted = Refusal { reason: Reason::UnitInVersion1, place: 0, column: 0 };
+        let refused = write(counts, &t.forms, &t.policy, &t.steps, &mut out).err();
+        assert_eq!(refused, (logic == Logic::Unit).then_some(wanted));
+        counts.version = Version(3);
+        let wanted = Refusal { reason: Reason::OutOfRange, place: 1, column: 0 };
+        assert_eq!(judge(counts, &t.forms, &t.policy, &t.steps), Err(wanted));
+    }
 }
 
 #[test]

@@ -3,16 +3,22 @@ use Prim.Native.Nat.{ℕ, suc}
 use mathlib.Core.List.{List, [], _∷_}
 use lib.ListN.{length}
 use Rattle.refusals.specs.Rows.{classRefusal}
+use Rattle.scope.specs.Logic.Facts.{Logic}
 use Rattle.scope.specs.File.Request.{Row}
 use Rattle.scope.specs.Call.Answer.{Answer, answer}
-use Rattle.scope.specs.Limits.{principalsAt, atomsAt, formulasAt, formAt, clauseAt, goalAt, stepsAt, stepAt}
-use Rattle.scope.specs.File.Refusals.{demand, principalsRefusal, atomsRefusal, formulasRefusal, stepsRefusal, stepRefusal, formRefusal}
+use Rattle.scope.specs.Limits.{versionAt, principalsAt, atomsAt, formulasAt, formAt, clauseAt, goalAt, stepsAt, stepAt}
+use Rattle.scope.specs.File.Refusals.{demand, versionRefusal, unitRefusal, principalsRefusal, atomsRefusal, formulasRefusal, stepsRefusal, stepRefusal, formRefusal}
 use Rattle.scope.specs.Call.Checked.{eachOf}
 use Rattle.scope.specs.Call.Tables.{hasRoom}
 use Rattle.classes.specs.Class.{goalIn, policyIn}
 
-unfoldable pub roomAnswers : ℕ → ℕ → ℕ → List Answer
-roomAnswers forms policy steps = answer (demand (hasRoom forms policy steps) 13 0) 0 ∷ []
+-- Before the lines that follow it: the room, unit told with version 1, and the version.
+unfoldable pub headAnswers : ℕ → ℕ → ℕ → ℕ → Logic → List Answer
+headAnswers forms policy steps version logic =
+    answer (demand (hasRoom forms policy steps) 13 0) 0 ∷
+    answer (unitRefusal version logic) 0 ∷
+    answer (versionRefusal version) versionAt ∷
+    []
 
 unfoldable pub countAnswers : ℕ → ℕ → ℕ → List Answer
 countAnswers principals atoms formulas =

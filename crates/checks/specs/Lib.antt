@@ -4,3 +4,4 @@ pub mod Answers
 pub mod Sections
 pub mod Whole
 pub mod FormTurns
+pub mod Near

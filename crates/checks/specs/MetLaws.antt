@@ -3,17 +3,22 @@ use Prim.Native.Nat.{ℕ, zero, suc, _+_, _≤_, _<_}
 use native.Mathlib.Numerals.{add-one}
 use native.Mathlib.Omega.{arith}
 use mathlib.Core.Path.{_≡_, refl, ap, sym, _∙_}
-use mathlib.Core.List.{List, [], _∷_, _++_}
+use mathlib.Core.List.{List, [], _∷_, _++_, map}
 use lib.ListN.{length, getD, take, drop}
 use lib.Seq.{take-suc, split-at, take-length}
 use Rattle.scope.specs.Tools.Tests.{never}
-use Rattle.scope.specs.Call.Answer.{Answer, told, answer}
+use Rattle.scope.specs.Call.Answer.{Answer, told, answer, furtherDown}
+use mathlib.Core.Bool.{Bool, true, false}
+use lib.Dec.{eqb}
+use Rattle.scope.specs.Logic.Form.{both, negate}
+use Rattle.scope.specs.File.Kinds.{logicOf}
+use Rattle.scope.specs.File.Refusals.{demand, unitRefusal}
 use Rattle.scope.specs.Call.Checked.{firstMet}
 use Rattle.common.specs.Answers.{answerOf}
 use Rattle.common.specs.declared.Answer.{Answer as Returned}
 use Rattle.checks.specs.declared.Checked.{Checked}
 use Rattle.checks.specs.declared.Checked.the-variants.{Fine, Refused}
-use Rattle.checks.specs.Met.{answerIn, checkedOf, metIn}
+use Rattle.checks.specs.Met.{answerIn, checkedOf, metIn, downOf}
 
 pub refused-at : (k place : ℕ) → (k ≡ 0 → ⊥) → Refused (answerOf (answer k place)) ≡ checkedOf (answer k place)
 unfolding checkedOf
@@ -63,6 +68,13 @@ one-stop x b g r e f = met-stop (x ∷ []) b g r (e ∙ sym (met-one x)) f
 
 pub one-go : (x : Answer) (b : List Answer) (g : Checked) → g ≡ checkedOf x → g ≡ Fine → metIn b ≡ metIn (x ∷ b)
 one-go x b g e f = met-go (x ∷ []) b g (e ∙ sym (met-one x)) f
+
+-- What a check of lines gave, told of the lines further down.
+pub met-down : (n : ℕ) (a : List Answer) → downOf n (metIn a) ≡ metIn (map (furtherDown n) a)
+unfolding metIn firstMet checkedOf downOf furtherDown
+met-down n [] = refl
+met-down n (told zero p c ∷ a) = met-down n a
+met-down n (told (suc k) p c ∷ a) = refl
 
 -- A refusal's number is not 0, so the code's answer says all of document 01's.
 pub first-answer : (a : List Answer) → answerIn (metIn a) ≡ firstMet a
@@ -122,3 +134,17 @@ turn-go {n} {a} {i} t e =
           sym (t .gave) ∙
           e;
     }
+
+-- Unit is told with version 1, or plain with any.
+pub plain-told : (version logic : ℕ) → logic ≡ 0 → 0 ≡ unitRefusal version (logicOf logic)
+unfolding unitRefusal logicOf
+plain-told version logic e = rw e (go (eqb version 1))
+  where
+    go : (b : Bool) → 0 ≡ demand (negate (both b false)) 16 0
+    go true = refl
+    go false = refl
+
+pub unit-told : (version logic : ℕ) → version ≡ 1 → (logic ≡ 0 → ⊥) → 16 ≡ unitRefusal version (logicOf logic)
+unfolding unitRefusal logicOf
+unit-told version zero e h = absurd (h refl)
+unit-told version (suc logic) e h = rw e refl

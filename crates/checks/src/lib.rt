@@ -1,18 +1,18 @@
-// The checks over counts and lent tables that writer and judge both make: 13; then 3, 4, 15 or 5 at the line where the text has it;
+// The checks over counts and lent tables that writer and judge both make: 13; 16; then 3, 4, 15 or 5 at the line where the text has it;
 // then 3 at place 0 for a nonzero entry past the counts. The first met is the answer.
 ghost use mathlib.Core.Path.{_≡_};
 ghost use mathlib.Core.List.{[]};
 ghost use lib.ListN.{drop};
 ghost use Rattle.scope.specs.Call.Answer.{answer};
 ghost use Rattle.scope.specs.File.Refusals.{demand, rowRefusal, firstOf};
-ghost use Rattle.scope.specs.Call.Checked.{allZero, pastZero, checked};
-ghost use Rattle.scope.specs.Call.Tables.{hasRoom, unpack, formEntry, policyEntry, stepEntry};
-ghost use Rattle.checks.specs.Met.{checkedOf, metIn, lentWith};
+ghost use Rattle.scope.specs.Call.Checked.{allZero, bodyAnswers, pastZero, checked};
+ghost use Rattle.scope.specs.Call.Tables.{hasRoom, unpack, formEntry, policyEntry, stepEntry, requestOf};
+ghost use Rattle.checks.specs.Met.{checkedOf, metIn, downOf, placeOf, lentWith};
 ghost use Prim.Native.Nat.{_≤_};
 ghost use Rattle.scope.specs.Limits.{mostFormulas, formAt};
-ghost use Rattle.scope.specs.File.Kinds.{formKinds};
+ghost use Rattle.scope.specs.File.Kinds.{formKinds, logicOf};
 ghost use Rattle.numbering.specs.Refused.{repeatRefusal};
-ghost use Rattle.checks.specs.Answers.{countAnswers, formAnswers, policyAnswers, stepAnswers};
+ghost use Rattle.checks.specs.Answers.{headAnswers, countAnswers, formAnswers, policyAnswers, stepAnswers};
 ghost use Rattle.refusals.specs.Rows.{row};
 ghost use Rattle.checks.specs.Whole.{formPart, linePart, stepPart};
 use common::Answer;
@@ -211,13 +211,28 @@ fn check_proof(counts: Counts, classes: &[u8], steps: &[u16]) -> Checked
     check_steps(counts.formulas, counts.policy, counts.steps, steps)
 }
 
-pub fn check_tables(counts: Counts, forms: &[u16], policy: &[u16], steps: &[u16]) -> Checked
-    ensures { λ r. ⌜ r ≡ checkedOf (checked (lentWith counts (now (forms .entry)) (now (policy .entry)) (now (steps .entry)))) ⌝ }
+// The room, unit with version 1, and the version.
+fn check_head(counts: Counts, forms: usize, policy: usize, steps: usize) -> Checked
+    ensures { λ r. ⌜ r ≡ metIn (headAnswers forms policy steps (counts .version) (logicOf (counts .logic))) ⌝ }
 {
-    let room = answer_at(room_refusal(forms.len(), policy.len(), steps.len()), 0);
+    let room = answer_at(room_refusal(forms, policy, steps), 0);
     let Checked::Fine = room else {
         return room;
     };
+    let unit = answer_at(rows::unit_refusal(counts.version, counts.logic), 0);
+    let Checked::Fine = unit else {
+        return unit;
+    };
+    answer_at(
+        rows::count_refusal(1, common::MOST_VERSION, counts.version),
+        common::version_at(),
+    )
+}
+
+// The lines from `principals=` on, as version 1 counts them.
+fn check_body(counts: Counts, forms: &[u16], policy: &[u16], steps: &[u16]) -> Checked
+    ensures { λ r. ⌜ r ≡ metIn (bodyAnswers (requestOf (lentWith counts (now (forms .entry)) (now (policy .entry)) (now (steps .entry))))) ⌝ }
+{
     let formulas = check_formulas(counts, forms);
     let Checked::Fine = formulas else {
         return formulas;
@@ -227,9 +242,34 @@ pub fn check_tables(counts: Counts, forms: &[u16], policy: &[u16], steps: &[u16]
     let Checked::Fine = clauses else {
         return clauses;
     };
-    let proof = check_proof(counts, &classes, steps);
-    let Checked::Fine = proof else {
-        return proof;
+    check_proof(counts, &classes, steps)
+}
+
+fn further_down(checked: Checked, extra: u32) -> Checked
+    requires { ⌜ (placeOf checked ≤ 10000) × (extra ≤ 1) ⌝ }
+    ensures { λ r. ⌜ r ≡ downOf extra checked ⌝ }
+{
+    match checked {
+        Checked::Fine => Checked::Fine,
+        Checked::Refused(answer) => Checked::Refused(Answer {
+            refusal: answer.refusal,
+            place: answer.place + extra,
+            column: answer.column,
+        }),
+    }
+}
+
+pub fn check_tables(counts: Counts, forms: &[u16], policy: &[u16], steps: &[u16]) -> Checked
+    ensures { λ r. ⌜ r ≡ checkedOf (checked (lentWith counts (now (forms .entry)) (now (policy .entry)) (now (steps .entry)))) ⌝ }
+{
+    let head = check_head(counts, forms.len(), policy.len(), steps.len());
+    let Checked::Fine = head else {
+        return head;
+    };
+    let body = check_body(counts, forms, policy, steps);
+    let lines = further_down(body, common::extra_lines(counts.version));
+    let Checked::Fine = lines else {
+        return lines;
     };
     answer_at(past_refusal(counts, forms, policy, steps), 0)
 }

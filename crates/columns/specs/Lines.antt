@@ -8,7 +8,9 @@ use lib.Seq.{append-snoc}
 use native.Mathlib.Omega.{arith}
 use Rattle.scope.specs.Call.Answer.{told}
 use Rattle.scope.specs.File.Line.{Line, bad, parts, uncut, cut, line, lineStop}
-use Rattle.scope.specs.File.Kinds.{Kind}
+use Rattle.scope.specs.File.Kinds.{Kind, logicKinds}
+use Rattle.scope.specs.File.Bytes.{bytes}
+use Rattle.scope.specs.File.Text.{logicLine}
 use Rattle.scope.specs.Tools.Tests.{never}
 use Rattle.trip.specs.Cuts.{free}
 use Rattle.trip.specs.LineRefusals as LineRefusals
@@ -20,8 +22,8 @@ use Rattle.columns.specs.Unique.{one-column}
 use Rattle.columns.specs.Refused.{column-refused, refused-column, refused-stop}
 use Rattle.columns.specs.NumberPart.{tells-number}
 use Rattle.columns.specs.RowPart.{tells-end, end-undigited, tells-table}
-use Rattle.columns.specs.Small.{number-line-small}
-use Rattle.columns.specs.Shapes.{numberWith, number-parts, number-shape, rowWith, row-parts, row-shape}
+use Rattle.columns.specs.Small.{number-line-small, logic-line-small}
+use Rattle.columns.specs.Shapes.{numberWith, number-parts, number-shape, logic-parts, logic-shape, rowWith, row-parts, row-shape}
 
 -- Of a line of the request file, whose own refusals are never 2: it is refused 2 with a column exactly where that is its column, so that the
 -- bytes before it can go on and with the next one they cannot.
@@ -74,6 +76,12 @@ number-told key f h =
     told-by (numberWith key)
     (tells-alike (λ t. number-shape key t f) (number-parts key) (tells-word key (tells-number tells-end end-undigited)))
     (λ s. omega (arith, number-line-small key s))
+
+-- The line of a logic.
+pub logic-told : Told logicLine
+unfolding lineStop logicKinds
+logic-told =
+    told-by logicLine (tells-alike logic-shape logic-parts (tells-word (bytes "logic=") (tells-table logicKinds (omega arith)))) logic-line-small
 
 -- A line with a kind's word and its operands, for any key and any table of kinds.
 pub row-told :

@@ -8,19 +8,22 @@ use native.Mathlib.Omega.{arith}
 use lib.Dec.{eqb}
 use lib.ListN.{length}
 use borrow.Author.Tests.{eqb-true, eq-eqb}
+use Rattle.scope.specs.Logic.Facts.{Logic, plain, unit}
+use Rattle.scope.specs.File.Bytes.{bytes}
 use Rattle.scope.specs.File.Request.{Row}
 use Rattle.scope.specs.File.Number.{number}
 use Rattle.scope.specs.File.Line.{Line}
-use Rattle.scope.specs.File.Kinds.{Kind, kindIn, items, spaced, kindFrom, ontoNumbers, numbers, rowOf, kindRow, itemsRow, rowIn, rowShape}
-use Rattle.scope.specs.File.Text.{numberShape}
+use Rattle.scope.specs.File.Kinds.{Kind, kindIn, items, spaced, kindFrom, ontoNumbers, numbers, rowOf, kindRow, itemsRow, rowIn, rowShape, logicKinds, logicText}
+use Rattle.scope.specs.File.Text.{numberShape, logicLine}
 use Rattle.scope.specs.Tools.Tests.{never, both-met, taken}
 use Rattle.trip.specs.Numbers.{number-back}
+use Rattle.trip.specs.File.{logic-shaped}
 use Rattle.trip.specs.Cuts.{free, allFree, free-append, cut-there, cut-back, items-there, items-back, spaced-free, numeral-free}
 use Rattle.trip.specs.Words.{Neat, neat-kind, word-there, word-found}
 use Rattle.scope.specs.File.Column.{InShape}
 use Rattle.columns.specs.Laws.{After}
 use Rattle.columns.specs.NumberPart.{NumberThen}
-use Rattle.columns.specs.RowPart.{Ended, Items, InTable}
+use Rattle.columns.specs.RowPart.{Ended, Items, OfKind, InTable}
 
 -- A line whose value is a number.
 abbrev pub numberWith : List ℕ → Line ℕ
@@ -59,6 +62,38 @@ number-shape key t f a =
 -- A line whose value is a row of a table of kinds.
 abbrev pub rowWith : List ℕ → List Kind → Line Row
 rowWith key ks = record { key = key; shape = rowShape ks }
+
+-- A line whose value is the word of a logic.
+pub logic-parts : (t : List ℕ) → InShape logicLine t → After (bytes "logic=") (InTable logicKinds) t
+unfolding Items kindIn logicKinds logicText
+logic-parts t g =
+    record {
+      rest = g .value ++ 10 ∷ [];
+      is = cut-back 10 t (bytes "logic=" ++ g .value) [] (g .ends) ∙ append-assoc (bytes "logic=") (g .value) (10 ∷ []);
+      holds = rw (logic-shaped .back (g .value) (g .thing) (g .shaped)) (word (g .thing));
+    }
+  where
+    word : (l : Logic) → InTable logicKinds (logicText l ++ 10 ∷ [])
+    word plain =
+        record { at = 0; known = omega arith; holds = record { rest = 10 ∷ []; is = refl; holds = record { rest = []; is = refl; holds = refl } } }
+    word unit =
+        record { at = 1; known = omega arith; holds = record { rest = 10 ∷ []; is = refl; holds = record { rest = []; is = refl; holds = refl } } }
+
+pub logic-shape : (t : List ℕ) → After (bytes "logic=") (InTable logicKinds) t → InShape logicLine t
+unfolding Items kindIn logicKinds logicText free
+logic-shape t a = go (a .holds .at) (a .holds .known) (a .holds .holds)
+  where
+    shaped : (l : Logic) (u : List ℕ) → a .rest ≡ logicText l ++ u → Ended u → InShape logicLine t
+    shaped l u e d =
+        let x : t ≡ bytes "logic=" ++ logicText l ++ 10 ∷ [] =
+        a .is ∙ ap (λ r. bytes "logic=" ++ r) (e ∙ ap (λ r. logicText l ++ r) (ended u d)) ∙ sym (append-assoc (bytes "logic=") (logicText l) (10 ∷ [])) in
+        let y = cut-there 10 (bytes "logic=" ++ logicText l) [] (free-append 10 (bytes "logic=") (logicText l) refl (logic-shaped .clean l tt)) in
+        record { value = logicText l; thing = l; ends = rw x y; shaped = logic-shaped .there l tt }
+
+    go : (j : ℕ) → j < length logicKinds → OfKind (kindIn logicKinds j) (a .rest) → InShape logicLine t
+    go zero h w = shaped plain (w .rest) (w .is) (w .holds)
+    go (suc zero) h w = shaped unit (w .rest) (w .is) (w .holds)
+    go (suc (suc j)) h w = absurd (omega arith)
 
 record Onto (x : Option ℕ) (y : Option (List ℕ)) (ns : List ℕ) : Type 0 where
   first : ℕ

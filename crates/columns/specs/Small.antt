@@ -10,8 +10,8 @@ use borrow.Author.Tests.{leb-true}
 use Rattle.scope.specs.File.Number.{isDigit}
 use Rattle.scope.specs.File.Stops.{byteStop, wordStop, endStop, mostDigits, digitsUpTo, numberStop, stoppedAt, digitsStop, itemsStop, larger}
 use Rattle.scope.specs.File.Line.{lineStop}
-use Rattle.scope.specs.File.Kinds.{Kind, kindStop, kindsStop, formKinds, stepKinds}
-use Rattle.scope.specs.File.Text.{formLine, stepLine}
+use Rattle.scope.specs.File.Kinds.{Kind, kindStop, kindsStop, formKinds, stepKinds, logicKinds}
+use Rattle.scope.specs.File.Text.{logicLine, formLine, stepLine}
 use Rattle.scope.specs.Tools.Tests.{both-true}
 use Rattle.trip.specs.Words.{everyKind}
 use Rattle.lines.specs.Stop.{most-five}
@@ -92,6 +92,10 @@ number-line-small key s = word-small key 6 (digitsStop endStop) (digits-small 1 
 pub form-line-small : (s : List ℕ) → lineStop formLine s ≤ 22
 unfolding lineStop everyKind fits formKinds
 form-line-small s = word-small (formLine .key) 17 (kindsStop formKinds) (λ t. kinds-small formKinds 17 t refl) s
+
+pub logic-line-small : (s : List ℕ) → lineStop logicLine s ≤ 22
+unfolding lineStop everyKind fits logicKinds
+logic-line-small s = word-small (logicLine .key) 16 (kindsStop logicKinds) (λ t. kinds-small logicKinds 16 t refl) s
 
 pub step-line-small : (s : List ℕ) → lineStop stepLine s ≤ 22
 unfolding lineStop everyKind fits stepKinds

@@ -1,33 +1,35 @@
 -- d) 'Tell the clerk which column': what this crate proves of the column that File/Column of scope declares. There is one at most; a line is
 -- refused 2 with a column exactly where that is its column; and so is a text, in the line that the place names.
-use Prim.Native.Nat.{ℕ, suc, _≤_}
+use Prim.Native.Nat.{ℕ, suc, _+_, _≤_}
 use mathlib.Core.Path.{_≡_, refl}
 use mathlib.Core.List.{List, [], _∷_, _++_}
-use mathlib.Core.Bool.{true}
+use mathlib.Core.Bool.{Bool, true, false, cond}
 use lib.ListN.{length}
 use native.Mathlib.Omega.{arith}
-use Rattle.scope.specs.Call.Answer.{told}
+use Rattle.scope.specs.Call.Answer.{told, furtherDown}
+use Rattle.scope.specs.Logic.Facts.{Logic, plain}
 use Rattle.scope.specs.File.Bytes.{bytes}
 use Rattle.scope.specs.File.Request.{Request}
 use Rattle.scope.specs.File.Stops.{byteStop, wordStop}
-use Rattle.scope.specs.File.Line.{Read, ok, bad, parts, cut, lineStop}
+use Rattle.scope.specs.File.Line.{Read, ok, bad, parts, cut, lineStop, line, done}
 use Rattle.scope.specs.File.Kinds.{formKinds, stepKinds}
 use Rattle.scope.specs.File.Refusals.{versionRefusal, principalsRefusal, atomsRefusal, formulasRefusal, formRefusal, clausesRefusal, clauseRefusal, goalRefusal, stepsRefusal, stepRefusal}
-use Rattle.scope.specs.File.Text.{versionLine, principalsLine, atomsLine, formulasLine, formLine, clausesLine, clauseLine, goalLine, stepsLine, stepLine}
-use Rattle.scope.specs.File.Reader.{refused, formItem, clauseItem, stepItem, requestLines, ended, readRequest}
+use Rattle.scope.specs.File.Text.{versionLine, logicLine, principalsLine, atomsLine, formulasLine, formLine, clausesLine, clauseLine, goalLine, stepsLine, stepLine}
+use Rattle.scope.specs.File.Reader.{refused, formItem, clauseItem, stepItem, bodyLines, readLogic, requestLines, ended, readRequest}
 use Rattle.scope.specs.File.Column.{Column}
-use Rattle.scope.specs.Limits.{mostPrincipals, mostAtoms, mostFormulas, mostPolicyLines, mostSteps}
-use Rattle.scope.specs.Limits.{versionAt, principalsAt, atomsAt, formulasAt, formAt, clausesAt, clauseAt, goalAt, stepsAt, stepAt, endAt}
+use Rattle.scope.specs.Limits.{mostVersion, mostPrincipals, mostAtoms, mostFormulas, mostPolicyLines, mostSteps}
+use Rattle.scope.specs.Limits.{versionAt, hasLogic, logicAt, extraLines, principalsAt, atomsAt, formulasAt, formAt, clausesAt, clauseAt, goalAt, stepsAt, stepAt, endAt}
 use Rattle.scope.specs.Tools.Tests.{never}
 use Rattle.trip.specs.Cuts.{free}
 use Rattle.trip.specs.Words.{form-kinds-neat, step-kinds-neat}
-use Rattle.trip.specs.LineRefusals.{OfLine, shape, in-shape, count-mild, form-mild, clause-mild, goal-mild, step-mild}
-use Rattle.trip.specs.LineStops.{number-own, row-own}
-use Rattle.trip.specs.Places.{Before, Where, of-line, of-rest, refused-where}
+use Rattle.trip.specs.LineRefusals.{OfLine, shape, in-shape, mild-none, count-mild, form-mild, clause-mild, goal-mild, step-mild}
+use Rattle.trip.specs.LineStops.{number-own, logic-own, row-own}
+use Rattle.trip.specs.Places.{Before, Where, of-line, of-rest, behind, behind-told, refused-where}
 use Rattle.columns.specs.Unique.{one-column}
 use Rattle.columns.specs.Small.{form-line-small, step-line-small}
+use Rattle.columns.specs.Lines as Lines
 use Rattle.columns.specs.Lines.{Told, number-told, row-told}
-use Rattle.columns.specs.Texts.{Right, At, Lined, column-alike, line-lined, then-lined, done-lined, lined-as, counted-lined}
+use Rattle.columns.specs.Texts.{Right, At, Lined, column-alike, line-lined, then-lined, done-lined, lined-as, lined-told, further-lined, counted-lined}
 
 -- One column at most, whatever the lines of the right shape are.
 pub unique : {Whole : List ℕ → Type 0} (s : List ℕ) (n m : ℕ) → Column Whole s n → Column Whole s m → n ≡ m
@@ -37,6 +39,9 @@ unique = one-column
 pub version-told : Told versionLine
 unfolding free
 version-told = number-told (bytes "version=") refl (omega arith)
+
+pub logic-told : Told logicLine
+logic-told = Lines.logic-told
 
 pub principals-told : Told principalsLine
 unfolding free
@@ -74,11 +79,11 @@ pub step-told : Told stepLine
 unfolding free stepKinds
 step-told = row-told (bytes "step=") stepKinds refl step-kinds-neat (omega arith) step-line-small
 
--- The lines of a request, from the first on.
-request-lined : Lined requestLines versionAt (λ (q : Request). endAt (length (q .forms)) (length (q .policy)) (length (q .steps)))
-unfolding requestLines lineStop wordStop byteStop free
-request-lined =
-    then-lined (line-lined versionLine (number-own "version=" refl refl) version-told versionRefusal (count-mild 1 1) versionAt) λ version.
+-- The lines of a request from `principals=` on, as version 1 counts them,
+body-lined : (version : ℕ) (logic : Logic) →
+    Lined (bodyLines version logic) principalsAt (λ (q : Request). endAt (length (q .forms)) (length (q .policy)) (length (q .steps)))
+unfolding bodyLines lineStop wordStop byteStop free
+body-lined version logic =
     then-lined (line-lined principalsLine (number-own "principals=" refl refl) principals-told principalsRefusal (count-mild 1 mostPrincipals) principalsAt) λ principals.
     then-lined (line-lined atomsLine (number-own "atoms=" refl refl) atoms-told atomsRefusal (count-mild 1 mostAtoms) atomsAt) λ atoms.
     then-lined
@@ -103,6 +108,22 @@ request-lined =
     (stepAt (length forms) (length lines) (suc (length before))))) λ steps.
     done-lined _ _ _ (omega arith)))
 
+-- and from the first on.
+logic-lined : (version : ℕ) → Lined (readLogic version) logicAt (λ l. logicAt + extraLines version)
+unfolding readLogic
+logic-lined version = go (hasLogic version)
+  where
+    go : (b : Bool) → Lined (cond b (line logicLine (λ l. 0) logicAt) (done plain)) logicAt (λ l. logicAt + cond b 1 0)
+    go true = line-lined logicLine logic-own logic-told (λ l. 0) (λ l. mild-none) logicAt
+    go false = done-lined plain logicAt _ refl
+
+request-lined : Lined requestLines versionAt behind
+unfolding requestLines lineStop wordStop byteStop free
+request-lined =
+    then-lined (line-lined versionLine (number-own "version=" refl refl) version-told versionRefusal (count-mild 1 mostVersion) versionAt) λ version.
+    then-lined (logic-lined version) λ logic.
+    lined-told (behind-told version logic) (further-lined (extraLines version) (body-lined version logic))
+
 -- A line of the right shape for the place i behind the lines before it: its LF is its only one and its last byte, and the text up to it is not
 -- refused 2 there.
 pub record RightShape (before : List ℕ) (i : ℕ) (t : List ℕ) : Type 0 where
@@ -111,7 +132,7 @@ pub record RightShape (before : List ℕ) (i : ℕ) (t : List ℕ) : Type 0 wher
   pub shaped : (c : ℕ) → ¬ (readRequest (before ++ t) ≡ refused (told 2 i c))
 
 two-back : (x : Read Request) (i c : ℕ) → ended x ≡ refused (told 2 i c) → x ≡ bad (told 2 i c)
-unfolding ended
+unfolding ended furtherDown
 two-back (ok q []) i c e = never cc
 two-back (ok q (b ∷ rest)) i c e =
     let z : _≡_ {A = ℕ} 6 2 = cc in

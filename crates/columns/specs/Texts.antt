@@ -8,14 +8,15 @@ use mathlib.Core.Option.{Option, none, some}
 use native.Mathlib.Omega.{arith}
 use lib.Dec.{eqb}
 use lib.ListN.{length, length-append}
-use Rattle.scope.specs.Call.Answer.{told, columnFor}
-use Rattle.scope.specs.File.Line.{Line, Value, val, out, Read, ok, bad, Reader, Cut, parts, uncut, cut, strip, shapedAs, valued, placed, lineOf, lineStop, line, andThen, _>>=_, done, many, counted}
+use Rattle.scope.specs.Call.Answer.{told, columnFor, furtherDown}
+use Rattle.scope.specs.File.Line.{Line, Value, val, out, Read, ok, bad, Reader, Cut, parts, uncut, cut, strip, shapedAs, valued, placed, lineOf, lineStop, line, andThen, _>>=_, done, movedDown, further, many, counted}
 use Rattle.scope.specs.File.Column.{InShape, Goes, Stops, early, cannot, Column}
 use Rattle.scope.specs.Tools.Tests.{never}
 use Rattle.trip.specs.Cuts.{strip-back}
 use Rattle.trip.specs.LineRefusals.{Mild}
 use Rattle.trip.specs.LineStops.{OwnLine}
-use Rattle.trip.specs.LinePlaces.{lfs, whole, lfs-append, whole-append, nothing-whole, no-lf, line-missing, From, line-from, then-from, done-from, from-as}
+use Rattle.trip.specs.LinePlaces.{lfs, whole, lfs-append, whole-append, nothing-whole, no-lf, line-missing, From, line-from, then-from, done-from, from-as, from-told, further-from}
+use Rattle.trip.specs.Several.{bad-moved}
 use Rattle.columns.specs.Unique.{Prefix, shorter, alike, longer, compared}
 use Rattle.columns.specs.Refused.{ended-read}
 use Rattle.columns.specs.Lines.{Told, mild-not-two}
@@ -254,6 +255,54 @@ done-lined a i end h = record { from = done-from a i end h; columned = done-colu
 
 pub lined-as : {A : Type 0} {i j : ℕ} {end last : A → ℕ} {m : Reader A} → i ≡ j → ((a : A) → last a ≡ end a) → Lined m i end → Lined m j last
 lined-as {m = m} e h f = record { from = from-as e h (f .from); columned = rw e at (f .columned) }
+
+pub lined-told :
+    {A : Type 0} {i : ℕ} {end last : A → ℕ} {m : Reader A} → ((s : List ℕ) (a : A) (rest : List ℕ) → m s ≡ ok a rest → last a ≡ end a)
+    → Lined m i end → Lined m i last
+lined-told h f = record { from = from-told h (f .from); columned = f .columned }
+
+-- Lines n lines further down.
+module _ {A : Type 0} {i : ℕ} {m : Reader A} (n : ℕ) (p : Columned m i) where
+  down-right : (before : List ℕ) (h : ℕ) (t : List ℕ) → Right m before h t → Right (further n m) before (h + n) t
+  unfolding further
+  down-right before h t r =
+      record {
+        bytes = r .bytes;
+        ended = r .ended;
+        shaped =
+            λ c e.
+            let d = bad-moved n (m (before ++ t)) 2 (h + n) c e in
+            let z : d .above ≡ h = omega (arith, d .lines) in
+            r .shaped c (d .is ∙ ap (λ v. bad (told 2 v c)) z);
+      }
+
+  right-down : (before : List ℕ) (h : ℕ) (t : List ℕ) → Right (further n m) before (h + n) t → Right m before h t
+  unfolding further movedDown furtherDown
+  right-down before h t r = record { bytes = r .bytes; ended = r .ended; shaped = λ c e. r .shaped c (rw e refl) }
+
+  further-columns : (s : List ℕ) (j c : ℕ) → movedDown n (m s) ≡ bad (told 2 j c) → At (further n m) (i + n) s j c
+  unfolding further movedDown furtherDown
+  further-columns s j c e =
+      let d = bad-moved n (m s) 2 j c e in
+      let a = p .columns s (d .above) c (d .is) in
+      rw (sym (d .lines))
+      (record {
+        before = a .before;
+        rest = a .rest;
+        parted = a .parted;
+        lines = a .lines;
+        place = omega (arith, a .place);
+        short = rw (a .short) refl;
+        column = column-alike (down-right (a .before) (d .above)) (right-down (a .before) (d .above)) (a .column);
+        few = a .few;
+      })
+
+  pub further-columned : Columned (further n m) (i + n)
+  unfolding further
+  further-columned = record { columns = λ s j c e. further-columns s j c e }
+
+pub further-lined : {A : Type 0} {i : ℕ} {end : A → ℕ} {m : Reader A} (n : ℕ) → Lined m i end → Lined (further n m) (i + n) (λ a. end a + n)
+further-lined n f = record { from = further-from n (f .from); columned = further-columned n (f .columned) }
 
 module _
     {A : Type 0} (item : List A → Reader A) (i : ℕ)

@@ -2,10 +2,10 @@
 // request d) asks for is one more. Nothing here is asked of a line in shape.
 use lines::Number;
 ghost use mathlib.Core.Path.{_≡_};
-ghost use Rattle.scope.specs.File.Kinds.{formKinds, stepKinds, kindsStop};
+ghost use Rattle.scope.specs.File.Kinds.{formKinds, stepKinds, logicKinds, kindsStop};
 ghost use Rattle.scope.specs.File.Stops.{numberStop, noneStop, wordStop, endStop, itemsStop, larger};
 ghost use Rattle.scope.specs.File.Line.{lineStop};
-ghost use Rattle.scope.specs.File.Text.{formLine, stepLine};
+ghost use Rattle.scope.specs.File.Text.{logicLine, formLine, stepLine};
 ghost use Rattle.columns.specs.Shapes.{numberWith};
 
 // How many bytes of a key or a word stand at the front.
@@ -104,6 +104,13 @@ fn form_kinds(text: &[u8]) -> usize
     further(text, b"p", 1, top)
 }
 
+fn logic_kinds(text: &[u8]) -> usize
+    ensures { λ r. ⌜ r ≡ kindsStop logicKinds (now (text .entry)) ⌝ }
+{
+    let unit = further(text, b"unit", 0, 0);
+    further(text, b"plain", 0, unit)
+}
+
 fn step_kinds(text: &[u8]) -> usize
     ensures { λ r. ⌜ r ≡ kindsStop stepKinds (now (text .entry)) ⌝ }
 {
@@ -153,6 +160,18 @@ pub fn form_line(text: &[u8]) -> usize
         return front;
     }
     let more = form_kinds(&text[front..]);
+    front + more
+}
+
+// A `logic=` line.
+pub fn logic_line(text: &[u8]) -> usize
+    ensures { λ r. ⌜ r ≡ lineStop logicLine (now (text .entry)) ⌝ }
+{
+    let front = word_stop(text, b"logic=");
+    if front < 6 {
+        return front;
+    }
+    let more = logic_kinds(&text[front..]);
     front + more
 }
 

@@ -4,10 +4,12 @@ ghost use mathlib.Core.Path.{_≡_};
 ghost use Prim.Native.Nat.{suc};
 ghost use lib.ListN.{getD};
 ghost use Rattle.scope.specs.Call.Tables.{hasRoom};
-ghost use Rattle.scope.specs.Limits.{versionAt, principalsAt, atomsAt, formulasAt, formAt, clausesAt, clauseAt, goalAt, stepsAt, stepAt, endAt};
+ghost use Rattle.scope.specs.Limits.{versionAt, logicAt, extraLines, principalsAt, atomsAt, formulasAt, formAt, clausesAt, clauseAt, goalAt, stepsAt, stepAt, endAt};
 
 // 'What the numbers count': what is allowed. The definitions name the same limits in scope/specs/Limits.
 pub const MOST_BYTES: usize = 65536;
+
+pub const MOST_VERSION: u16 = 2;
 
 pub const MOST_PRINCIPALS: u16 = 16;
 
@@ -28,9 +30,12 @@ pub const POLICY_ROOM: usize = MOST_POLICY_LINES as usize;
 
 pub const STEP_ROOM: usize = 2 * (MOST_STEPS as usize);
 
-// The counts and the goal of a request, laid out for programs in other languages too.
+// Version and logic, the counts and the goal of a request, laid out for programs in other languages too. The logic is 0 for plain and 1 for
+// unit; a call that is told any other number takes it for unit.
 #[repr(C)]
 pub struct Counts {
+    pub version: u16,
+    pub logic: u16,
     pub principals: u16,
     pub atoms: u16,
     pub formulas: u16,
@@ -48,11 +53,24 @@ pub struct Answer {
     pub column: u16,
 }
 
-// The lines of the file, counted from 1. All that follow `version=` are told from the line of `principals=`.
+// The lines of the file, counted from 1. All that follow `version=` are told from the line of `principals=`, as version 1 counts them.
 pub fn version_at() -> u32
     ensures { λ r. ⌜ r ≡ versionAt ⌝ }
 {
     1
+}
+
+pub fn logic_at() -> u32
+    ensures { λ r. ⌜ r ≡ logicAt ⌝ }
+{
+    2
+}
+
+// How many lines further down the lines from `principals=` on stand: one, where `logic=` stands before them.
+pub fn extra_lines(version: u16) -> u32
+    ensures { λ r. ⌜ r ≡ extraLines version ⌝ }
+{
+    if version == 2 { 1 } else { 0 }
 }
 
 pub fn principals_at() -> u32

@@ -90,7 +90,7 @@ pub granted-gate : (s : List ℕ) (place n column : ℕ) → gate s ≡ prints 0
 granted-gate s place n column e = granting s (gate s) place n column (gate-prints s) e
 
 -- Demand 3.
-pub gate-entails : (s : List ℕ) (q : Request) → Granting s q → Entailed (q .principals) (q .atoms) (policyOf q) (goalOf q)
+pub gate-entails : (s : List ℕ) (q : Request) → Granting s q → Entailed (q .logic) (q .principals) (q .atoms) (policyOf q) (goalOf q)
 gate-entails s q g =
     steps-entail q (read-unrefused s q (got (3 * mostFormulas) mostPolicyLines (2 * mostSteps) s q (g .reads) .request))
     (steps-settled q (answer 0 0) .1 (grants (g .derives)))

@@ -1,5 +1,5 @@
 -- Demands 2 and 3 for the judge: its answer for every lent tables and counts is the refusal of their checks, or else granted exactly when the
--- steps are a derivation within the limits, or else the first step that breaks the rules; and what is granted holds in every model.
+-- steps are a derivation within the limits, or else the first step that breaks the rules; and what is granted holds in every model of its logic.
 use Prim.Native.Nat.{ℕ, zero, suc, _<_}
 use mathlib.Core.Path.{_≡_, refl, sym, _∙_}
 use mathlib.Core.Logic.{_↔_}
@@ -11,7 +11,7 @@ use Rattle.scope.specs.Call.Checked.{checked}
 use Rattle.scope.specs.Logic.Derivation.{Derivation}
 use Rattle.scope.specs.Logic.Room.{within}
 use Rattle.scope.specs.Call.Judge.{policyOf, goalOf, stepsOf, startOf, stepsAnswer, else, judge}
-use Rattle.scope.specs.Logic.Models.{Model, Frame, Sat, SatAll, Entailed}
+use Rattle.scope.specs.Logic.Models.{Model, ModelOf, Sat, SatAll, Entailed}
 use Rattle.granted.specs.Reasons.{Settled, grants, breaks}
 use Rattle.granted.specs.Statements.{granted, settled}
 use Rattle.granted.specs.FirstBreak.{break-range}
@@ -37,7 +37,7 @@ zero-granted q a r c (breaks {k = k} b) e =
     absurd (omega arith)
 
 -- Granted steps of a request without refusal: in every model, at each world where every policy line holds, the goal holds.
-pub steps-entail : (q : Request) → Unrefused q → stepsAnswer q ≡ answer 0 0 → Entailed (q .principals) (q .atoms) (policyOf q) (goalOf q)
+pub steps-entail : (q : Request) → Unrefused q → stepsAnswer q ≡ answer 0 0 → Entailed (q .logic) (q .principals) (q .atoms) (policyOf q) (goalOf q)
 unfolding stepsAnswer startOf policyOf goalOf
 steps-entail q s e =
     request-sound within q (stepsOf q) (rows-in (q .principals) (q .atoms) (s .forms)) (granted within (startOf q) (stepsOf q) .0 e)
@@ -99,15 +99,16 @@ judge-grants t = (λ e. allowed-grants t (judge t) 0 0 e (judge-allowed t), back
     back : Grants t → judge t ≡ answer 0 0
     back g = allowed-judge t (answer 0 0) (by-steps (g .fine) (grants (g .derives)))
 
--- Demand 3: what is granted holds in every finite model over the request's principals and atoms, at each world where the policy holds.
-pub judge-entails : (t : Lent) → judge t ≡ answer 0 0 → Entailed (t .principals) (t .atoms) (policyOf (requestOf t)) (goalOf (requestOf t))
+-- Demand 3: what is granted holds in every finite model of its logic over the request's principals and atoms, at each world where the policy holds.
+pub judge-entails : (t : Lent) → judge t ≡ answer 0 0 →
+    Entailed (t .logic) (t .principals) (t .atoms) (policyOf (requestOf t)) (goalOf (requestOf t))
 unfolding requestOf
 judge-entails t e =
     let g = judge-grants t .0 e in
     steps-entail (requestOf t) (checked-fine t (g .fine) .unrefused) (steps-settled (requestOf t) (answer 0 0) .1 (grants (g .derives)))
 
 -- In the other form: a request that some model refutes is not granted.
-pub judge-refuted : (t : Lent) (m : Model) → Frame (t .principals) (t .atoms) m → (w : ℕ) → w < m .worlds →
+pub judge-refuted : (t : Lent) (m : Model) → ModelOf (t .logic) (t .principals) (t .atoms) m → (w : ℕ) → w < m .worlds →
     SatAll m w (policyOf (requestOf t)) → (Sat m w (goalOf (requestOf t)) → ⊥) → judge t ≡ answer 0 0 → ⊥
 unfolding Entailed
 judge-refuted t m f w b p r e = r (judge-entails t e m f w b p)

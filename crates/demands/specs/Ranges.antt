@@ -3,22 +3,24 @@
 --     checked-range : checked t ≡ told (suc k) place column → ByChecks (suc k) place × (column ≡ 0)
 --     writing-range : writing t len ≡ unwritten (told k place column) → ByWriting k place × (column ≡ 0)
 -- So reading refuses 1 to 6, 13 or 15 (`read-number`), and no refusal has number 0 (`reading-firm`).
-use Prim.Native.Nat.{ℕ, zero, suc, _<_, _≤_}
+use Prim.Native.Nat.{ℕ, zero, suc, _+_, _<_, _≤_}
 use mathlib.Core.Path.{_≡_, refl}
 use mathlib.Core.Bool.{Bool, true, false, cond}
-use mathlib.Core.List.{List, [], _∷_, _++_}
+use mathlib.Core.List.{List, [], _∷_, _++_, map}
 use mathlib.Core.Logic.{_⊎_, inl, inr}
 use native.Mathlib.Omega.{arith}
-use lib.Dec.{leb}
+use lib.Dec.{leb, eqb}
 use lib.ListN.{length}
+use Rattle.scope.specs.Logic.Facts.{isUnit}
+use Rattle.scope.specs.Logic.Form.{both, negate}
 use Rattle.scope.specs.File.Request.{Request}
-use Rattle.scope.specs.File.Refusals.{demand, formRefusal, clauseRefusal, stepRefusal}
+use Rattle.scope.specs.File.Refusals.{demand, unitRefusal, formRefusal, clauseRefusal, stepRefusal}
 use Rattle.scope.specs.File.Reader.{refused, readRequest}
 use Rattle.scope.specs.File.Text.{requestText}
-use Rattle.scope.specs.Limits.{mostBytes, mostPrincipals, mostAtoms, mostFormulas, mostPolicyLines, mostSteps, formAt, clauseAt, stepAt}
-use Rattle.scope.specs.Call.Answer.{Answer, told, answer}
+use Rattle.scope.specs.Limits.{mostBytes, mostVersion, extraLines, mostPrincipals, mostAtoms, mostFormulas, mostPolicyLines, mostSteps, formAt, clauseAt, stepAt}
+use Rattle.scope.specs.Call.Answer.{Answer, told, answer, furtherDown}
 use Rattle.scope.specs.Call.Tables.{Lent, hasRoom, requestOf}
-use Rattle.scope.specs.Call.Checked.{firstMet, eachOf, lineAnswers, pastZero, checked}
+use Rattle.scope.specs.Call.Checked.{firstMet, eachOf, bodyAnswers, lineAnswers, pastZero, checked}
 use Rattle.scope.specs.Call.Calls.{reading, written, unwritten, writtenIf, writing}
 use Rattle.scope.specs.Tools.Tests.{never}
 use Rattle.trip.specs.LineRefusals.{InShape, range, later, twice, class, OfLine, shape, in-shape, Mild, count-mild, form-mild, clause-mild, goal-mild, step-mild}
@@ -30,9 +32,10 @@ pub data ByReading (s : List ℕ) (k place column : ℕ) : Type 0 where
   too-long : k ≡ 1 → place ≡ 0 → column ≡ 0 → ByReading s k place column
   at-line : Where s k place column → ByReading s k place column
 
--- Of lent tables: 13 at place 0; 3, 4, 15 or 5 at a line; 3 at place 0.
+-- Of lent tables: 13 and 16 at place 0; 3, 4, 15 or 5 at a line; 3 at place 0.
 pub data ByChecks (k place : ℕ) : Type 0 where
   no-room : k ≡ 13 → place ≡ 0 → ByChecks k place
+  unit-told : k ≡ 16 → place ≡ 0 → ByChecks k place
   at-line : InShape k → 0 < place → ByChecks k place
   past-counts : k ≡ 3 → place ≡ 0 → ByChecks k place
 
@@ -112,14 +115,14 @@ with-room f l n s k place column h e t = go (leb (length s) mostBytes) (rw h at 
     go false d = let z : 1 ≡ k = cc in omega arith
 
 -- The checks: the first refusal met in a list of answers is in its range, put together from the lists of a request's lines.
-record Ranged (list : List Answer) : Type 0 where
-  ranged : (k place column : ℕ) → firstMet list ≡ told (suc k) place column → ByChecks (suc k) place × (column ≡ 0)
+record Ranged (By : ℕ → ℕ → Type 0) (list : List Answer) : Type 0 where
+  ranged : (k place column : ℕ) → firstMet list ≡ told (suc k) place column → By (suc k) place × (column ≡ 0)
 
-ranged-none : Ranged []
+ranged-none : {By : ℕ → ℕ → Type 0} → Ranged By []
 unfolding firstMet
 ranged-none = record { ranged = λ k place column e. never cc }
 
-ranged-first : (n p : ℕ) (more : List Answer) → (0 < n → ByChecks n p) → Ranged more → Ranged (answer n p ∷ more)
+ranged-first : {By : ℕ → ℕ → Type 0} (n p : ℕ) (more : List Answer) → (0 < n → By n p) → Ranged By more → Ranged By (answer n p ∷ more)
 unfolding firstMet
 ranged-first zero p more h t = record { ranged = t .ranged }
 ranged-first (suc n) p more h t =
@@ -131,25 +134,55 @@ ranged-first (suc n) p more h t =
           (rw (z, y) at (h (omega arith)), cc);
     }
 
-ranged-line : (n p : ℕ) (more : List Answer) → Mild n → 0 < p → Ranged more → Ranged (answer n p ∷ more)
-ranged-line n p more m h t = ranged-first n p more (λ i. at-line (m i) h) t
-
-ranged-all : (xs ys : List Answer) → Ranged xs → Ranged ys → Ranged (xs ++ ys)
+ranged-all : {By : ℕ → ℕ → Type 0} (xs ys : List Answer) → Ranged By xs → Ranged By ys → Ranged By (xs ++ ys)
 unfolding firstMet
 ranged-all [] ys t u = u
 ranged-all (told zero p c ∷ xs) ys t u = record { ranged = ranged-all xs ys (record { ranged = t .ranged }) u .ranged }
 ranged-all (told (suc n) p c ∷ xs) ys t u = record { ranged = t .ranged }
 
+ranged-wider : {By Other : ℕ → ℕ → Type 0} {list : List Answer} → ((k place : ℕ) → By k place → Other k place) → Ranged By list → Ranged Other list
+ranged-wider h t =
+    record {
+      ranged =
+          λ k place column e.
+          let r = t .ranged k place column e in
+          (h (suc k) place (r .0), r .1);
+    }
+
+-- Of a line: 3, 4, 15 or 5 at its place, which is one further down in version 2.
+record AtLine (k place : ℕ) : Type 0 where
+  in-shape : InShape k
+  line : 0 < place
+
+ranged-line : (n p : ℕ) (more : List Answer) → Mild n → 0 < p → Ranged AtLine more → Ranged AtLine (answer n p ∷ more)
+ranged-line n p more m h t = ranged-first n p more (λ i. record { in-shape = m i; line = h }) t
+
 ranged-each : {A : Type 0} (refusal : List A → A → ℕ) (place : List A → ℕ) → ((b : List A) (x : A) → Mild (refusal b x)) →
-    ((b : List A) → 0 < place b) → (before xs : List A) → Ranged (eachOf (λ b x. answer (refusal b x) (place b)) before xs)
+    ((b : List A) → 0 < place b) → (before xs : List A) → Ranged AtLine (eachOf (λ b x. answer (refusal b x) (place b)) before xs)
 unfolding eachOf
 ranged-each refusal place m h before [] = ranged-none
 ranged-each refusal place m h before (x ∷ xs) =
     ranged-line (refusal before x) (place before) _ (m before x) (h before) (ranged-each refusal place m h (before ++ (x ∷ [])) xs)
 
-ranged-lines : (q : Request) → Ranged (lineAnswers q)
-unfolding lineAnswers
-ranged-lines q =
+ranged-down : (n : ℕ) (xs : List Answer) → Ranged AtLine xs → Ranged AtLine (map (furtherDown n) xs)
+unfolding firstMet furtherDown
+ranged-down n [] t = ranged-none
+ranged-down n (told zero p c ∷ xs) t = record { ranged = ranged-down n xs (record { ranged = t .ranged }) .ranged }
+ranged-down n (told (suc m) p c ∷ xs) t =
+    record {
+      ranged =
+          λ k place column e.
+          let r = t .ranged m p c refl in
+          let z : m ≡ k = cc in
+          let y : p + n ≡ place = cc in
+          let x : c ≡ column = cc in
+          let l = r .0 .line in
+          (record { in-shape = rw z at (r .0 .in-shape); line = omega arith }, rw x at (r .1));
+    }
+
+ranged-body : (q : Request) → Ranged AtLine (bodyAnswers q)
+unfolding bodyAnswers
+ranged-body q =
     ranged-line _ _ _ (count-mild 1 mostPrincipals (q .principals)) (omega arith)
     (ranged-line _ _ _ (count-mild 1 mostAtoms (q .atoms)) (omega arith)
     (ranged-line _ _ _ (count-mild 1 mostFormulas (length (q .forms))) (omega arith)
@@ -164,10 +197,22 @@ ranged-lines q =
     (ranged-each (λ b. stepRefusal) (λ b. stepAt (length (q .forms)) (length (q .policy)) (suc (length b))) (λ b. step-mild) (λ b. omega arith) [] (q .steps))
     ranged-none))))))))
 
+ranged-lines : (q : Request) → Ranged ByChecks (lineAnswers q)
+unfolding lineAnswers
+ranged-lines q =
+    ranged-wider (λ k place a. at-line (a .in-shape) (a .line))
+    (ranged-line _ _ _ (count-mild 1 mostVersion (q .version)) (omega arith)
+    (ranged-down (extraLines (q .version)) (bodyAnswers q) (ranged-body q)))
+
 room-asked : (t : Bool) → 0 < demand t 13 0 → ByChecks (demand t 13 0) 0
 unfolding demand
 room-asked true h = absurd (omega arith)
 room-asked false h = no-room refl refl
+
+unit-asked : (t : Bool) → 0 < demand t 16 0 → ByChecks (demand t 16 0) 0
+unfolding demand
+unit-asked true h = absurd (omega arith)
+unit-asked false h = unit-told refl refl
 
 past-asked : (t : Bool) → 0 < demand t 3 0 → ByChecks (demand t 3 0) 0
 unfolding demand
@@ -175,10 +220,11 @@ past-asked true h = absurd (omega arith)
 past-asked false h = past-counts refl refl
 
 pub checked-range : (t : Lent) (k place column : ℕ) → checked t ≡ told (suc k) place column → ByChecks (suc k) place × (column ≡ 0)
-unfolding checked
+unfolding checked unitRefusal
 checked-range t k place column e =
     ranged-first _ _ _ (room-asked (hasRoom (length (t .formTable)) (length (t .policyTable)) (length (t .stepTable))))
-    (ranged-all _ _ (ranged-lines (requestOf t)) (ranged-first _ _ _ (past-asked (pastZero t)) ranged-none)) .ranged k place column e
+    (ranged-first _ _ _ (unit-asked (negate (both (eqb (t .version) 1) (isUnit (t .logic)))))
+    (ranged-all _ _ (ranged-lines (requestOf t)) (ranged-first _ _ _ (past-asked (pastZero t)) ranged-none))) .ranged k place column e
 
 -- Writing.
 pub writing-range : (t : Lent) (len k place column : ℕ) → writing t len ≡ unwritten (told k place column) → ByWriting k place × (column ≡ 0)

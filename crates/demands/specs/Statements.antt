@@ -32,7 +32,8 @@ allowed-judge = Judged.allowed-judge
 pub judge-grants : (t : Lent) → judge t ≡ answer 0 0 ↔ Grants t
 judge-grants = Judged.judge-grants
 
-pub judge-entails : (t : Lent) → judge t ≡ answer 0 0 → Entailed (t .principals) (t .atoms) (policyOf (requestOf t)) (goalOf (requestOf t))
+pub judge-entails : (t : Lent) → judge t ≡ answer 0 0 →
+    Entailed (t .logic) (t .principals) (t .atoms) (policyOf (requestOf t)) (goalOf (requestOf t))
 judge-entails = Judged.judge-entails
 
 -- So does the gate, for every file (Gate).
@@ -48,7 +49,7 @@ gate-grants = Gate.gate-grants
 pub granted-gate : (s : List ℕ) (place n column : ℕ) → gate s ≡ prints 0 place n column → (q : Request) × Granting s q × (length (q .steps) ≡ n)
 granted-gate = Gate.granted-gate
 
-pub gate-entails : (s : List ℕ) (q : Request) → Granting s q → Entailed (q .principals) (q .atoms) (policyOf q) (goalOf q)
+pub gate-entails : (s : List ℕ) (q : Request) → Granting s q → Entailed (q .logic) (q .principals) (q .atoms) (policyOf q) (goalOf q)
 gate-entails = Gate.gate-entails
 
 -- The numbers, places and columns of refusals (Ranges) and of answers (AnswerRanges).

@@ -5,7 +5,7 @@ use mathlib.Core.Path.{_≡_}
 use mathlib.Core.Logic.{⊎-elim}
 use native.Mathlib.Omega.{arith}
 use native.Mathlib.Nat.{eq-or-lt-of-le}
-use Rattle.scope.specs.Logic.Facts.{Fact, le, by, sf, Sheet, grown, Rules}
+use Rattle.scope.specs.Logic.Facts.{Fact, le, by, sf, unit, Sheet, grown, Rules}
 use Rattle.facts.specs.Kept.{Proper, Way, stop, up-le, up-by, way-from}
 
 -- Along a way sf facts go on (rules 4 and 5), and S facts from its end to a world are S facts from its beginning (rules 6 and 9).
@@ -18,6 +18,12 @@ pub way-by : {sh : Sheet} {H : Fact → Type 0} {x y z a : ℕ} → Rules sh H �
 way-by R g (stop h) q = q
 way-by {z = z′} {a = a} R g (up-le {x} {y} p w) q = R .rule6 x y z′ z′ a p (way-by R g w q) (R .rule7 z′ g)
 way-by {z = z′} {a = a} R g (up-by {a = b} {x} {y} p w) q = R .rule9 x y z′ a b p (way-by R g w q)
+
+-- With unit a way is ≤ (rules 8 and 10).
+pub way-le : {sh : Sheet} {H : Fact → Type 0} {x y : ℕ} → Rules sh H → sh .logic ≡ unit → Way sh H x y → H (le x y)
+way-le R e (stop {x} h) = R .rule7 x h
+way-le R e (up-le {x} {y} {z} p w) = R .rule8 x y z p (way-le R e w)
+way-le R e (up-by {a} {x} {y} {z} p w) = R .rule8 x y z (R .rule10 x y a e p) (way-le R e w)
 
 -- A way stays one among more worlds and facts, and goes on by another way.
 pub way-more : {sh th : Sheet} {H G : Fact → Type 0} {x y : ℕ} →
@@ -35,12 +41,13 @@ way-then (up-by p w) v = up-by p (way-then w v)
 pub record Leads (sh : Sheet) (u : ℕ) (H : Fact → Type 0) (Less : ℕ → Type 0) (Sees : ℕ → ℕ → Type 0) : Type 0 where
   pub less-way : (x : ℕ) → Less x → Way sh H x u
   pub sees-way : (a x : ℕ) → Sees a x → Way sh H x u
-  -- rules 2, 6, 8 and 9 at the new world
+  -- rules 2, 6, 8, 9 and 10 at the new world
   pub sees-sf : (a b x : ℕ) → Sees b x → H (sf x a b) → Sees a x
   pub le-sees : (a x y : ℕ) → H (le x y) → Sees a y → Sees a x
   pub le-less : (x y : ℕ) → H (le x y) → Less y → Less x
   pub by-sees : (a b x y : ℕ) → H (by b x y) → Sees a y → Sees a x
   pub by-less : (a x y : ℕ) → H (by a x y) → Less y → Sees a x
+  pub sees-less : (a x : ℕ) → sh .logic ≡ unit → Sees a x → Less x
 
 -- The old facts and those that lead to the new world n.
 pub data New (sh : Sheet) (u : ℕ) (H : Fact → Type 0) (Less : ℕ → Type 0) (Sees : ℕ → ℕ → Type 0) : Fact → Type 0 where
@@ -140,6 +147,10 @@ module _ (sh : Sheet) (u : ℕ) (H : Fact → Type 0) (Less : ℕ → Type 0) (S
   new9 x y w a b (sees e s) (old q) = absurd (omega (arith, by-low q))
   new9 x y w a b (sees e s) (sees d t) = absurd (omega (arith, sees-low a y t))
 
+  new10 : (x v a : ℕ) → sh .logic ≡ unit → N (by a x v) → N (le x v)
+  new10 x v a e (old p) = old (R .rule10 x v a e p)
+  new10 x v a e (sees d s) = less d (L .sees-less a x e s)
+
   -- The old and the new facts are closed among one world more.
   pub new-closed : Rules (grown sh) (New sh u H Less Sees)
   new-closed =
@@ -153,6 +164,7 @@ module _ (sh : Sheet) (u : ℕ) (H : Fact → Type 0) (Less : ℕ → Type 0) (S
         rule7 = new7;
         rule8 = new8;
         rule9 = new9;
+        rule10 = new10;
       }
 
   -- A step before what is reached is reached.
@@ -236,6 +248,7 @@ module _ (sh : Sheet) (m a b : ℕ) (newest : sh .worlds ≡ suc m) (H : Fact �
         rule7 = λ x h. kept (R .rule7 x h);
         rule8 = λ x y w p q. kept (R .rule8 x y w (old-le x y p) (old-le y w q));
         rule9 = λ x y w c d p q. kept (R .rule9 x y w c d (old-by d x y p) (old-by c y w q));
+        rule10 = λ x y c e p. kept (R .rule10 x y c e (old-by c x y p));
       }
 
   -- and their ways are the old ones.

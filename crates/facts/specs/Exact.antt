@@ -1,5 +1,5 @@
 -- The statements of this crate in one place. However a sequent's rows were made by the operations, returns to a mark (the saved rows of sf) included, they tell a
--- fact of its worlds and principals exactly if it follows from the sequent's own given facts by rules 1 to 9: `built-exact`. And what did not
+-- fact of its worlds and principals exactly if it follows from the sequent's own given facts by the rules of its logic: `built-exact`. And what did not
 -- follow where a branch stood is not told after the return to it: `gone`.
 use Prim.Native.Nat.{ℕ, suc, _<_, _≤_}
 use mathlib.Core.Bool.{Bool, true, false}
@@ -7,7 +7,7 @@ use mathlib.Core.Path.{_≡_, refl}
 use mathlib.Core.List.{List, [], _∷_}
 use mathlib.Core.Logic.{_↔_}
 use native.Mathlib.Omega.{arith}
-use Rattle.scope.specs.Logic.Facts.{Fact, le, by, sf, Sheet, grown, Closed, Basis}
+use Rattle.scope.specs.Logic.Facts.{Fact, le, by, sf, isUnit, Sheet, grown, Closed, Basis}
 use Rattle.facts.specs.Rows.{worldsMax, principalsMax, told, sfRows, putSf, rootRows, grownLe, grownBy, noted}
 use Rattle.facts.specs.Kept.{Aimed, Kept, basis-among, Agree, agree-self, agree-then, agree-put, kept-back}
 use Rattle.facts.specs.Grown.{kept-le, kept-by, agree-le, agree-by}
@@ -19,7 +19,7 @@ use Rattle.facts.specs.Root.{kept-root}
 pub data Branch (m : ℕ) (r : List ℕ) : List ℕ → Type 0 where
   begin : Branch m r r
   more-le : {s : List ℕ} (u n : ℕ) → Branch m r s → m < n → Branch m r (grownLe s u n)
-  more-by : {s : List ℕ} (a u n : ℕ) → Branch m r s → m < n → Branch m r (grownBy s a u n)
+  more-by : {s : List ℕ} (t : Bool) (a u n : ℕ) → Branch m r s → m < n → Branch m r (grownBy t s a u n)
   more-note : {s : List ℕ} (n a b : ℕ) → Branch m r s → m ≤ n → Branch m r (noted s n a b)
   more-back : {s : List ℕ} (n : ℕ) (t : List ℕ) → Branch m r s → m ≤ n → Branch m r (putSf s n t)
 
@@ -31,7 +31,7 @@ pub data Built : Sheet → List Fact → List ℕ → Type 0 where
       Built sh fs r → u < sh .worlds → sh .worlds < worldsMax → Built (grown sh) (le u (sh .worlds) ∷ fs) (grownLe r u (sh .worlds))
   new-by : {sh : Sheet} {a u : ℕ} {fs : List Fact} {r : List ℕ} →
       Built sh fs r → a < sh .principals → u < sh .worlds → sh .worlds < worldsMax →
-      Built (grown sh) (by a u (sh .worlds) ∷ fs) (grownBy r a u (sh .worlds))
+      Built (grown sh) (by a u (sh .worlds) ∷ fs) (grownBy (isUnit (sh .logic)) r a u (sh .worlds))
   new-note : {sh : Sheet} {m a b : ℕ} {fs : List Fact} {r : List ℕ} →
       Built sh fs r → sh .worlds ≡ suc m → a < sh .principals → b < sh .principals → Built sh (sf m a b ∷ fs) (noted r m a b)
   return : {sh : Sheet} {m : ℕ} {fs : List Fact} {r s : List ℕ} →
@@ -41,8 +41,8 @@ branch-agree : {m : ℕ} {r s : List ℕ} → Branch m r s → Agree (suc m) r s
 branch-agree {m} {r} begin = agree-self (suc m) r
 branch-agree {m} (more-le {s} u n b h) =
     let l : suc m ≤ suc m = omega arith in agree-then l (branch-agree b) (agree-le (suc m) u n s (omega arith))
-branch-agree {m} (more-by {s} a u n b h) =
-    let l : suc m ≤ suc m = omega arith in agree-then l (branch-agree b) (agree-by (suc m) a u n s (omega arith))
+branch-agree {m} (more-by {s} t a u n b h) =
+    let l : suc m ≤ suc m = omega arith in agree-then l (branch-agree b) (agree-by (suc m) t a u n s (omega arith))
 branch-agree {m} (more-note {s} n a b c h) =
     let l : suc m ≤ suc m = omega arith in agree-then l (branch-agree c) (agree-note (suc m) n a b s (omega arith))
 branch-agree {m} (more-back {s} n t b h) =

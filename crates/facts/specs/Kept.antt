@@ -59,6 +59,7 @@ proper {sh} b c =
       rule7 = λ u p. (omega arith, p);
       rule8 = λ u v w p q. (omega arith, q .1);
       rule9 = λ u v w a b p q. (q .0, omega arith, q .2);
+      rule10 = λ u v a e p. (omega arith, p .2);
     })
     b c
 

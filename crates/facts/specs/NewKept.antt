@@ -38,6 +38,7 @@ closed-more {sh} {fs} {e} f c =
       rule7 = λ u p. R .rule7 u (omega arith);
       rule8 = R .rule8;
       rule9 = R .rule9;
+      rule10 = R .rule10;
     })
     (λ g p. given (there p)) c
 

@@ -21,22 +21,18 @@ pub record NewRows (n u l up : ℕ) (f : ℕ → ℕ) (r s : List ℕ) : Type 0 
   pub row-by : (c : ℕ) → c < principalsMax → getD s (byAt n + c) 0 ≡ f c
   pub row-sf : (c : ℕ) → c < principalsMax → getD s (sfAt n + c) 0 ≡ getD r (sfAt u + c) 0
 
--- A loop that takes over the rows of S of world u for world n, whichever they are, reads each as it stood before the loop,
-abbrev rowsBy : List ℕ → ℕ → ℕ → ℕ
-rowsBy r u i = getD r (byAt u + i) 0
-
-read-before : (r : List ℕ) (u n c : ℕ) → c < principalsMax → getD (fill (rowsBy r u) (byAt n) c r) (byAt u + c) 0 ≡ rowsBy r u c
-read-before r u n c h =
-    ⊎-elim (λ low. fill-before (rowsBy r u) (byAt n) c r (byAt u + c) low)
-    (λ past. fill-after (rowsBy r u) (byAt n) c r (byAt u + c) (omega arith))
+-- A loop that fills the rows of S of world n from those of world u, whichever they are, reads each as it stood before the loop,
+read-before : (f : ℕ → ℕ) (r : List ℕ) (u n c : ℕ) → c < principalsMax → getD (fill f (byAt n) c r) (byAt u + c) 0 ≡ getD r (byAt u + c) 0
+read-before f r u n c h =
+    ⊎-elim (λ low. fill-before f (byAt n) c r (byAt u + c) low)
+    (λ past. fill-after f (byAt n) c r (byAt u + c) (omega arith))
     (below-or-past (byAt u + c) (byAt n))
 
-pub over-turn : (r : List ℕ) (u n c : ℕ) {from at z : ℕ} {x y : List ℕ} → c < principalsMax → from ≡ byAt u → at ≡ byAt n →
-    x ≡ fill (λ (i : ℕ). getD r (from + i) 0) at c r → z ≡ getD x (from + c) 0 → y ≡ set x (at + c) z →
-    y ≡ fill (λ (i : ℕ). getD r (from + i) 0) at (c + 1) r
-over-turn r u n c {x = x} h hf ha hx hz hy =
-    let was : x ≡ fill (rowsBy r u) (byAt n) c r = rw (hf, ha) at hx in
-    rw (hf, ha) (fill-more (rowsBy r u) (byAt n) c r was (rw ha at hy) (rw (hf, was) at hz ∙ read-before r u n c h))
+pub over-turn : (f : ℕ → ℕ) (r : List ℕ) (u n c : ℕ) {from at z w : ℕ} {x y : List ℕ} → c < principalsMax → from ≡ byAt u → at ≡ byAt n →
+    x ≡ fill f at c r → z ≡ getD x (from + c) 0 → (z ≡ getD r (from + c) 0 → w ≡ f c) → y ≡ set x (at + c) w → y ≡ fill f at (c + 1) r
+over-turn f r u n c {from} {at} {z} h hf ha hx hz hw hy =
+    let same : getD (fill f at c r) (from + c) 0 ≡ getD r (from + c) 0 = rw (hf, ha) (read-before f r u n c h) in
+    fill-more f at c r hx hy (hw (rw hx at hz ∙ same))
 
 -- and as it stood before the first rows of n were written.
 pub over-still : (r : List ℕ) (u n l up c : ℕ) → c < principalsMax → getD (newWorld r u n l up) (byAt u + c) 0 ≡ getD r (byAt u + c) 0

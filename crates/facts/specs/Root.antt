@@ -35,6 +35,7 @@ start-closed sh alone =
       rule7 = λ u p. (omega arith, omega arith);
       rule8 = λ u v w p q. (p .0, q .1);
       rule9 = λ u v w a b p q. p;
+      rule10 = λ u v a e p. absurd p;
     }
 
 follows-start : (sh : Sheet) → sh .worlds ≡ 1 → (f : Fact) → Closed sh (Among []) f → Start sh f

@@ -100,14 +100,23 @@ unfoldable pub grownLe : List ℕ → ℕ → ℕ → List ℕ
 unfolding newWorld
 grownLe r u n = fill (overRow r u) (byAt n) principalsMax (newWorld r u n (getD r (leAt u) 0) (leadRow r u))
 
--- Behind u by u S_a n: only n ≤ n; of principal c with u: c sf a, S leads to n from u and all before it.
+-- Behind u by u S_a n: of principal c with u: c sf a, S leads to n from u and all before it (`seenRow`). With unit, t, u ≤ n too: what is ≤ u is
+-- ≤ n (`underRow`), and what S leads to u it leads to n (`besideRow`).
 abbrev pub seenRow : List ℕ → ℕ → ℕ → ℕ → ℕ
 seenRow s ways a c = when (speaksIn s c a) ways
 
-unfoldable pub grownBy : List ℕ → ℕ → ℕ → ℕ → List ℕ
+abbrev pub underRow : Bool → List ℕ → ℕ → ℕ
+underRow t r u = when t (getD r (leAt u) 0)
+
+abbrev pub besideRow : Bool → List ℕ → ℕ → ℕ → ℕ
+besideRow t r u c = when t (getD r (byAt u + c) 0)
+
+abbrev pub grownRow : Bool → List ℕ → ℕ → ℕ → ℕ → ℕ
+grownRow t r a u c = bitOr (seenRow (sfRows r u) (getD r (upAt u) 0) a c) (besideRow t r u c)
+
+unfoldable pub grownBy : Bool → List ℕ → ℕ → ℕ → ℕ → List ℕ
 unfolding newWorld
-grownBy r a u n =
-    fill (seenRow (sfRows r u) (getD r (upAt u) 0) a) (byAt n) principalsMax (newWorld r u n 0 (getD r (upAt u) 0))
+grownBy t r a u n = fill (grownRow t r a u) (byAt n) principalsMax (newWorld r u n (underRow t r u) (getD r (upAt u) 0))
 
 -- a sf b noted at m: each row of sf that has a takes in the row of b (`takenRow`), beside what stood in it.
 abbrev pub takenRow : List ℕ → ℕ → ℕ → ℕ → ℕ

@@ -196,19 +196,24 @@ pub fn grow_le(rows: &mut [Row; ROWS], u: World, n: World)
     }
 }
 
-// A new world n behind u by u S_a n.
-pub fn grow_by(rows: &mut [Row; ROWS], a: Principal, u: World, n: World)
-    ensures { λ _. ⌜ now (rows .exit) ≡ grownBy (now (rows .entry)) (a .0) (u .0) (n .0) ⌝ }
+// A new world n behind u by u S_a n; with unit u ≤ n too, and what S leads to u it leads to n.
+pub fn grow_by(rows: &mut [Row; ROWS], unit: bool, a: Principal, u: World, n: World)
+    ensures { λ _. ⌜ now (rows .exit) ≡ grownBy unit (now (rows .entry)) (a .0) (u .0) (n .0) ⌝ }
 {
     let saved = sf_rows(rows, u);
     let ways = get_row(rows, place_of(u, UP));
-    new_world(rows, u, n, 0, ways);
+    let under = get_row(rows, place_of(u, LE));
+    let below = row_if(unit, under);
+    new_world(rows, u, n, below, ways);
+    let from = place_of(u, BY);
     let at = place_of(n, BY);
     for c in 0..PRINCIPALS {
         let number = c as u16;
         let sees = speaks_in(&saved, Principal(number), a);
-        let row = row_if(sees, ways);
-        put_row(rows, at + c, row);
+        let seen = row_if(sees, ways);
+        let over = get_row(rows, from + c);
+        let beside = row_if(unit, over);
+        put_row(rows, at + c, seen | beside);
     }
 }
 

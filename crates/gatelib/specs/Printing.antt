@@ -8,7 +8,7 @@ use Rattle.scope.specs.File.Request.{Request}
 use Rattle.scope.specs.Call.Answer as S
 use Rattle.scope.specs.Limits.{mostFormulas, mostPolicyLines, mostSteps}
 use Rattle.scope.specs.File.Reader.{Outcome, read, refused}
-use Rattle.scope.specs.Call.Tables.{lentOf}
+use Rattle.scope.specs.Call.Tables.{formEntry, policyEntry, stepEntry, table, lentOf}
 use Rattle.scope.specs.Call.Calls.{formTableAfter, policyTableAfter, stepTableAfter, requestIn}
 use Rattle.scope.specs.Call.Judge.{judge, prints, printed, gate}
 use Rattle.scope.specs.Call.Judge as J
@@ -17,7 +17,7 @@ use Rattle.common.specs.declared.Answer.{Answer as Returned}
 use Rattle.checks.specs.Met.{lentWith}
 use Rattle.reader.specs.declared.Reading.{Reading}
 use Rattle.reader.specs.declared.Reading.the-variants as Reading
-use Rattle.reader.specs.Answers.{countsOf, readingOf}
+use Rattle.reader.specs.Answers.{countsOf, readingOf, logic-back}
 use Rattle.common.specs.Answers.{answerOf}
 use Rattle.scope.specs.Tools.Tests.{never}
 use Rattle.demands.specs.Gate.{gateReads, gate-judges, prints-gate, unread}
@@ -45,11 +45,24 @@ unfolding printedOf printed
 printed-answer (S.told k place column) n = refl
 
 -- The tables as reading leaves them, with the counts that it answers, say the request that was read.
-lent-is : (q : Request) →
-    lentWith (countsOf q) (formTableAfter (3 * mostFormulas) (read q)) (policyTableAfter mostPolicyLines (read q)) (stepTableAfter (2 * mostSteps) (read q))
-    ≡ lentOf (3 * mostFormulas) mostPolicyLines (2 * mostSteps) q
+pub lent-is : (forms policy steps : ℕ) (q : Request) →
+    lentWith (countsOf q) (formTableAfter forms (read q)) (policyTableAfter policy (read q)) (stepTableAfter steps (read q)) ≡ lentOf forms policy steps q
 unfolding formTableAfter policyTableAfter stepTableAfter requestIn lentOf
-lent-is q = refl
+lent-is forms policy steps q =
+    λ i.
+    record {
+      version = q .version;
+      logic = logic-back (q .logic) i;
+      principals = q .principals;
+      atoms = q .atoms;
+      formulas = length (q .forms);
+      policy = length (q .policy);
+      goal = q .goal;
+      steps = length (q .steps);
+      formTable = table formEntry forms (q .forms);
+      policyTable = table policyEntry policy (q .policy);
+      stepTable = table stepEntry steps (q .steps);
+    }
 
 abbrev put : Returned → ℕ → Printed
 put a n = record { answer = a .refusal; place = a .place; steps = n; column = a .column }
@@ -72,7 +85,7 @@ read-prints s c forms policy steps a e f l p j = go (gateReads s) refl e
         ap
         (λ x. lentWith (countsOf q) (formTableAfter (3 * mostFormulas) (read q)) (policyTableAfter mostPolicyLines (read q)) x)
         (p ∙ ap (stepTableAfter (2 * mostSteps)) d) ∙
-        lent-is q in
+        lent-is (3 * mostFormulas) mostPolicyLines (2 * mostSteps) q in
         let b = judge (lentOf (3 * mostFormulas) mostPolicyLines (2 * mostSteps) q) in
         let z : a ≡ answerOf b = j ∙ ap (λ x. answerOf (judge x)) t in
         ap (λ x. put x (c .steps)) z ∙

@@ -30,7 +30,7 @@ zero-answer s r q e g =
     (ap (λ (p : Printed). p .answer) h, ap (λ (p : Printed). p .place) h, ap (λ (p : Printed). p .steps) h, ap (λ (p : Printed). p .column) h)
 
 pub zero-entails : (s : List ℕ) (r : Printed) → r ≡ printedOf (gate s) → r .answer ≡ 0 →
-    (q : Request) × Granting s q × Entailed (q .principals) (q .atoms) (policyOf q) (goalOf q)
+    (q : Request) × Granting s q × Entailed (q .logic) (q .principals) (q .atoms) (policyOf q) (goalOf q)
 zero-entails s r e z =
     let g = answer-zero s r e z in
     (g .0, g .1, gate-entails s (g .0) (g .1))

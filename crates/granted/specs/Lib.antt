@@ -7,4 +7,5 @@ pub mod Walks
 pub mod Granted
 pub mod FirstBreak
 pub mod LimitsOnly
+pub mod Unit
 pub mod Statements

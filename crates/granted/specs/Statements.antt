@@ -5,9 +5,11 @@ use mathlib.Core.List.{List, [], _∷_}
 use mathlib.Core.Logic.{_↔_}
 use lib.ListN.{length}
 use Rattle.scope.specs.Call.Answer.{Answer, answer}
-use Rattle.scope.specs.Logic.Obligation.{Obligation, Step}
+use Rattle.scope.specs.Logic.Form.{Form}
+use Rattle.scope.specs.Logic.Facts.{plain, unit}
+use Rattle.scope.specs.Logic.Obligation.{Obligation, Step, start}
 use Rattle.scope.specs.Logic.Derivation.{Rule, Derivation}
-use Rattle.scope.specs.Logic.Room.{free}
+use Rattle.scope.specs.Logic.Room.{within, free}
 use Rattle.scope.specs.Logic.Walk.{refuse, stepOn, walk}
 use Rattle.granted.specs.Reasons.{Room, Fits, Unnamed, Named, Unbacked, Backed, Breaks, Settled}
 use Rattle.granted.specs.Refusals as Refusals
@@ -15,6 +17,7 @@ use Rattle.granted.specs.Granted as Granted
 use Rattle.granted.specs.FirstBreak as FirstBreak
 use Rattle.granted.specs.LimitsOnly as LimitsOnly
 use Rattle.granted.specs.LimitsOnly.{Limited}
+use Rattle.granted.specs.Unit as Unit
 
 -- The refusals of one step, number by number, and no other number (Refusals).
 module _ (o : Obligation) (x : Step) where
@@ -64,3 +67,9 @@ module _ (room : Room) where
 -- Without limits 10 is never the answer.
 pub never-ten : (os : List Obligation) (xs : List Step) (p : ℕ) → walk free 0 os xs ≡ answer 10 p → ⊥
 never-ten = LimitsOnly.never-ten
+
+-- Unit grants what plain grants, by the same steps (Unit).
+pub unit-grants : (k : ℕ) (policy : List Form) (g : Form) (xs : List Step) →
+    walk within 0 (start plain k policy g ∷ []) xs ≡ answer 0 0 → walk within 0 (start unit k policy g ∷ []) xs ≡ answer 0 0
+unit-grants k policy g xs e =
+    granted within (start unit k policy g) xs .1 (Unit.unit-grants k policy g xs (granted within (start plain k policy g) xs .0 e))

@@ -1,6 +1,9 @@
 -- The judge's answer by its two parts: a refusal of the checks is the answer, and else what the walk answers.
-use Prim.Native.Nat.{zero, suc}
+use Prim.Native.Nat.{ℕ, zero, suc}
 use mathlib.Core.Path.{_≡_, refl, sym, ap, _∙_}
+use mathlib.Core.Bool.{Bool, true, false}
+use Rattle.scope.specs.Logic.Facts.{isUnit}
+use Rattle.scope.specs.File.Kinds.{logicOf}
 use Rattle.scope.specs.Call.Answer as S
 use Rattle.scope.specs.Call.Answer.{told, answer}
 use Rattle.scope.specs.Call.Tables.{Lent, requestOf}
@@ -42,9 +45,20 @@ unfolding walkedTo walkedAnswer
 walked-is walked.Granted = refl
 walked-is (walked.Refused r) = refl
 
-pub walk-answers : (t : Lent) → checkedOf (checked t) ≡ Fine →
-    walkedTo (ran (t .formTable) (t .policyTable) (t .stepTable) (t .policy) (t .goal) (t .steps)) ≡ answerOf (judge t)
-walk-answers t e =
+pub walk-answers : (t : Lent) (unit : Bool) → unit ≡ isUnit (t .logic) → checkedOf (checked t) ≡ Fine →
+    walkedTo (ran unit (t .formTable) (t .policyTable) (t .stepTable) (t .policy) (t .goal) (t .steps)) ≡ answerOf (judge t)
+walk-answers t unit u e =
     let c = fine-zero t e in
     let j : judge t ≡ stepsAnswer (requestOf t) = judge-law t ∙ ap (λ a. else a (stepsAnswer (requestOf t))) c ∙ else-passes 0 0 (stepsAnswer (requestOf t)) in
-    walked-is _ ∙ ap answerOf (ran-walks t c ∙ sym j)
+    let w : walkedAnswer (ran unit (t .formTable) (t .policyTable) (t .stepTable) (t .policy) (t .goal) (t .steps)) ≡ stepsAnswer (requestOf t) =
+    rw u (ran-walks t c) in
+    walked-is _ ∙ ap answerOf (w ∙ sym j)
+
+pub plain-told : (logic : ℕ) → logic ≡ 0 → false ≡ isUnit (logicOf logic)
+unfolding logicOf
+plain-told logic e = rw e refl
+
+pub unit-told : (logic : ℕ) → (logic ≡ 0 → ⊥) → true ≡ isUnit (logicOf logic)
+unfolding logicOf
+unit-told zero h = absurd (h refl)
+unit-told (suc logic) h = refl

@@ -23,5 +23,5 @@ grants-zero t r e g =
     (ap (λ a. a .refusal) h, ap (λ a. a .place) h, ap (λ a. a .column) h)
 
 pub zero-entails : (t : Lent) (r : Answer) → r ≡ answerOf (judge t) → r .refusal ≡ 0 →
-    Entailed (t .principals) (t .atoms) (policyOf (requestOf t)) (goalOf (requestOf t))
+    Entailed (t .logic) (t .principals) (t .atoms) (policyOf (requestOf t)) (goalOf (requestOf t))
 zero-entails t r e z = judge-entails t (judge-grants t .1 (refusal-zero t r e z))

@@ -1,5 +1,7 @@
 // The judge: the checks over tables and counts, and then the answers about steps. It writes nowhere.
 ghost use mathlib.Core.Path.{_≡_};
+ghost use Rattle.scope.specs.Logic.Facts.{isUnit};
+ghost use Rattle.scope.specs.File.Kinds.{logicOf};
 ghost use Rattle.scope.specs.Call.Judge.{judge as judge'};
 ghost use Rattle.checks.specs.Met.{lentWith};
 ghost use Rattle.common.specs.Answers.{answerOf};
@@ -22,6 +24,15 @@ fn refused_by(checks: Checked) -> Answer
         },
         Checked::Refused(answer) => answer,
     }
+}
+
+fn is_unit(logic: u16) -> bool
+    ensures { λ r. ⌜ r ≡ isUnit (logicOf logic) ⌝ }
+{
+    if logic == 0 {
+        return false;
+    }
+    true
 }
 
 // The number of an answer that is no refusal.
@@ -51,10 +62,12 @@ pub fn judge(counts: Counts, forms: &[u16], policy: &[u16], steps: &[u16]) -> An
     let Checked::Fine = checks else {
         return refused_by(checks);
     };
+    let unit = is_unit(counts.logic);
     let walked = walking::walk_steps(
         forms,
         policy,
         steps,
+        unit,
         counts.policy,
         counts.goal,
         counts.steps,

@@ -1,12 +1,14 @@
 -- A value by its items: a word as one number, and the numbers behind it.
 use Prim.Native.Nat.{ℕ, _+_, _*_}
 use mathlib.Core.List.{List, [], _∷_}
-use mathlib.Core.Bool.{cond}
+use mathlib.Core.Path.{_≡_, refl}
+use mathlib.Core.Bool.{true, false, cond}
 use mathlib.Core.Option.{Option, none, some}
 use lib.Dec.{ltb, eqb}
 use lib.ListN.{length}
 use Rattle.scope.specs.File.Request.{Row}
-use Rattle.scope.specs.File.Kinds.{rowOf}
+use Rattle.scope.specs.File.Bytes.{bytes}
+use Rattle.scope.specs.File.Kinds.{rowOf, same, kindFrom, logicKinds}
 
 -- Bytes as digits to the base 256 behind those of code v.
 unfoldable pub codeFrom : ℕ → List ℕ → ℕ
@@ -26,3 +28,21 @@ laterItems (w ∷ ws) = ws
 unfoldable pub wantedRow : ℕ → ℕ → Option (List ℕ) → Option Row
 wantedRow k wanted none = none
 wantedRow k wanted (some ns) = cond (eqb (length ns) wanted) (some (rowOf k ns)) none
+
+-- The number of a logic, 2 where there is none.
+unfoldable pub logicPlace : Option ℕ → ℕ
+logicPlace none = 2
+logicPlace (some n) = n
+
+module _ (v : List ℕ) where
+  pub plain-found : same (bytes "plain") v ≡ true → 0 ≡ logicPlace (kindFrom 0 logicKinds v)
+  unfolding kindFrom logicKinds logicPlace
+  plain-found e = rw e refl
+
+  pub unit-found : same (bytes "plain") v ≡ false → same (bytes "unit") v ≡ true → 1 ≡ logicPlace (kindFrom 0 logicKinds v)
+  unfolding kindFrom logicKinds logicPlace
+  unit-found e f = rw (e, f) refl
+
+  pub no-logic : same (bytes "plain") v ≡ false → same (bytes "unit") v ≡ false → 2 ≡ logicPlace (kindFrom 0 logicKinds v)
+  unfolding kindFrom logicKinds logicPlace
+  no-logic e f = rw (e, f) refl

@@ -3,10 +3,10 @@
 ghost use mathlib.Core.Path.{_≡_};
 ghost use Prim.Native.Nat.{_≤_};
 ghost use Rattle.scope.specs.File.Number.{number};
-ghost use Rattle.scope.specs.File.Kinds.{same, items, numbers, formKinds, stepKinds, rowIn};
+ghost use Rattle.scope.specs.File.Kinds.{same, items, numbers, formKinds, stepKinds, logicKinds, kindFrom, rowIn};
 ghost use Rattle.lines.specs.Parts.{upTo, valueOf, restOf};
 ghost use Rattle.scope.specs.File.Stops.{mostDigits, numberStop};
-ghost use Rattle.lines.specs.Words.{codeOf, laterItems, wantedRow};
+ghost use Rattle.lines.specs.Words.{codeOf, laterItems, wantedRow, logicPlace};
 ghost use Rattle.lines.specs.Answers.{numberAnswer, rowAnswer};
 
 // A number, or the place of the first byte that cannot go on.
@@ -205,6 +205,19 @@ fn row_with(value: &[u8], end: usize, kind: usize, wanted: u8) -> Row
         return two_numbers(rest, kind);
     }
     Row::Bad
+}
+
+// The number of the logic whose word a value is; 2 where it is none's.
+pub fn logic_number(value: &[u8]) -> u16
+    ensures { λ r. ⌜ r ≡ logicPlace (kindFrom 0 logicKinds (now (value .entry))) ⌝ }
+{
+    if same_word(b"plain", value) {
+        return 0;
+    }
+    if same_word(b"unit", value) {
+        return 1;
+    }
+    2
 }
 
 // The value of a `form=` line.

@@ -1,6 +1,7 @@
 -- The walk taken turn by turn, as laws over its definitions: what a turn does to the state, and what the walk answers at its end.
 use Prim.Native.Nat.{ℕ, zero, suc, _+_, _-_, _*_, _<_, _≤_}
 use mathlib.Core.Path.{_≡_, refl, sym, _∙_, ap}
+use mathlib.Core.Bool.{Bool}
 use mathlib.Core.List.{List, [], _∷_}
 use native.Mathlib.Omega.{arith}
 use lib.ListN.{getD, set, length, replicate}
@@ -27,17 +28,17 @@ use Rattle.machine.specs.Machine.{State, nothing, obligationAt, current,
 use Rattle.machine.specs.Turn.{stackOf, stateOf}
 
 -- One step of the definition, and none.
-ran-suc : (forms steps : List ℕ) (k i : ℕ) (s : State) →
-    ranFrom forms steps (suc k) i s ≡
+ran-suc : (unit : Bool) (forms steps : List ℕ) (k i : ℕ) (s : State) →
+    ranFrom unit forms steps (suc k) i s ≡
     pick (eqb (s .opened) 0) (refusedAt 11 i)
-    (goOn (judgedNow forms s (stepIn steps i)) i (λ m. ranFrom forms steps k (i + 1) (moved s m)))
+    (goOn (judgedNow forms s (stepIn steps i)) i (λ m. ranFrom unit forms steps k (i + 1) (moved unit s m)))
 unfolding ranFrom
-ran-suc forms steps k i s = refl
+ran-suc unit forms steps k i s = refl
 
-ran-zero : (forms steps : List ℕ) (i : ℕ) (s : State) →
-    ranFrom forms steps zero i s ≡ endedAt (s .opened) i
+ran-zero : (unit : Bool) (forms steps : List ℕ) (i : ℕ) (s : State) →
+    ranFrom unit forms steps zero i s ≡ endedAt (s .opened) i
 unfolding ranFrom
-ran-zero forms steps i s = refl
+ran-zero unit forms steps i s = refl
 
 on-fits : (j : Judged) (i : ℕ) (next : Move → Walked) (m : Move) → j ≡ Fits m → goOn j i next ≡ next m
 unfolding goOn
@@ -47,44 +48,44 @@ on-no : (j : Judged) (i : ℕ) (next : Move → Walked) (k : ℕ) → j ≡ No k
 unfolding goOn
 on-no j i next k e = rw e refl
 
-pub at-first : (forms steps : List ℕ) (n : ℕ) (s : State) → ranFrom forms steps n 0 s ≡ ranFrom forms steps (n - 0) 0 s
-at-first forms steps n s = let e : n ≡ n - 0 = omega arith in ap (λ (k : ℕ). ranFrom forms steps k 0 s) e
+pub at-first : (unit : Bool) (forms steps : List ℕ) (n : ℕ) (s : State) → ranFrom unit forms steps n 0 s ≡ ranFrom unit forms steps (n - 0) 0 s
+at-first unit forms steps n s = let e : n ≡ n - 0 = omega arith in ap (λ (k : ℕ). ranFrom unit forms steps k 0 s) e
 
 one-more : (n i : ℕ) → i < n → n - i ≡ suc (n - (i + 1))
 one-more n i h = omega arith
 
-module _ (forms steps : List ℕ) (n i : ℕ) (s : State) where
+module _ (unit : Bool) (forms steps : List ℕ) (n i : ℕ) (s : State) where
   -- A step that fits.
   turn : (m : Move) → i < n → (s .opened ≡ 0 → ⊥) → judgedNow forms s (stepIn steps i) ≡ Fits m →
-      ranFrom forms steps (n - i) i s ≡ ranFrom forms steps (n - (i + 1)) (i + 1) (moved s m)
+      ranFrom unit forms steps (n - i) i s ≡ ranFrom unit forms steps (n - (i + 1)) (i + 1) (moved unit s m)
   turn m h some fits =
-      ap (λ (k : ℕ). ranFrom forms steps k i s) (one-more n i h) ∙
-      ran-suc forms steps (n - (i + 1)) i s ∙
+      ap (λ (k : ℕ). ranFrom unit forms steps k i s) (one-more n i h) ∙
+      ran-suc unit forms steps (n - (i + 1)) i s ∙
       pick-false _ _ _ (ne-eqb (s .opened) 0 some) ∙
       on-fits _ i _ m fits
 
   -- A step that is refused, and one where everything is closed.
   pub turn-no : (j : Judged) (k number : ℕ) → i < n → (s .opened ≡ 0 → ⊥) → judgedNow forms s (stepIn steps i) ≡ j → j ≡ No k →
-      number ≡ numberIn j → ranFrom forms steps (n - i) i s ≡ refusedAt number i
+      number ≡ numberIn j → ranFrom unit forms steps (n - i) i s ≡ refusedAt number i
   unfolding numberIn
   turn-no j k number h some judged refused e =
-      ap (λ (k : ℕ). ranFrom forms steps k i s) (one-more n i h) ∙
-      ran-suc forms steps (n - (i + 1)) i s ∙
+      ap (λ (k : ℕ). ranFrom unit forms steps k i s) (one-more n i h) ∙
+      ran-suc unit forms steps (n - (i + 1)) i s ∙
       pick-false _ _ _ (ne-eqb (s .opened) 0 some) ∙
       on-no _ i _ k (judged ∙ refused) ∙
       ap (λ (x : ℕ). refusedAt x i) (sym (e ∙ ap numberIn refused))
 
-  pub turn-late : i < n → s .opened ≡ 0 → ranFrom forms steps (n - i) i s ≡ refusedAt 11 i
+  pub turn-late : i < n → s .opened ≡ 0 → ranFrom unit forms steps (n - i) i s ≡ refusedAt 11 i
   turn-late h none =
-      ap (λ (k : ℕ). ranFrom forms steps k i s) (one-more n i h) ∙
-      ran-suc forms steps (n - (i + 1)) i s ∙
+      ap (λ (k : ℕ). ranFrom unit forms steps k i s) (one-more n i h) ∙
+      ran-suc unit forms steps (n - (i + 1)) i s ∙
       pick-true _ _ _ (eq-eqb (s .opened) 0 none)
 
   -- No step is left.
-  pub ended : n ≤ i → ranFrom forms steps (n - i) i s ≡ endedAt (s .opened) i
+  pub ended : n ≤ i → ranFrom unit forms steps (n - i) i s ≡ endedAt (s .opened) i
   ended h =
       let e : n - i ≡ 0 = omega arith in
-      ap (λ (k : ℕ). ranFrom forms steps k i s) e ∙ ran-zero forms steps i s
+      ap (λ (k : ℕ). ranFrom unit forms steps k i s) e ∙ ran-zero unit forms steps i s
 
 -- The beginning, line by line: an `sf` line, another one, and the lines from the last on.
 pub line-sf : (forms : List ℕ) (f : ℕ) (rows : List ℕ) → rowAt forms f .kind ≡ 7 →
@@ -150,14 +151,14 @@ unfolding judgedNow
 judged-is forms s x o top j e t q = sym (rw (t, e) at q)
 
 -- What each call of a turn answers: the current obligation o and its topmost chunk, the one below, what is made of o, and the tables.
-pub record Written (s : State) (m : Move) (o next : Obligation) (top : ℕ) (made : Change) (rows chunks saved clauses ats : List ℕ) :
+pub record Written (unit : Bool) (s : State) (m : Move) (o next : Obligation) (top : ℕ) (made : Change) (rows chunks saved clauses ats : List ℕ) :
     Type 0 where
   pub this : o ≡ current s
   pub topmost : top ≡ topChunk (s .stack .chunks) (s .opened - 1) (o .phase)
   pub under : next ≡ obligationAt s (s .opened - 2)
   pub change : made ≡ changeOf m o (s .opened)
   pub kept : saved ≡ savedAfter (s .opened) (made .opened) (s .rows) (o .worlds) (s .stack .saved)
-  pub facts : rows ≡ rowsAfter m o next (block mostPrincipals saved (s .opened - 2)) (s .rows)
+  pub facts : rows ≡ rowsAfter unit m o next (block mostPrincipals saved (s .opened - 2)) (s .rows)
   pub held : chunks ≡ chunksAfter m (chunkCount (o .phase)) (s .opened - 1) (s .stack .chunks)
   pub clause : clauses ≡ set (s .clauses) (o .clauses) top
   pub world : ats ≡ set (s .ats) (o .clauses) (goalIn (o .phase) .at .0)
@@ -168,10 +169,10 @@ written s made rows chunks saved clauses ats =
     (stackOf (set (set (s .stack .obligations) (s .opened) (made .upper)) (s .opened - 1) (made .lower)) chunks saved)
     (made .opened) clauses ats
 
-moved-is : (s : State) (m : Move) (o next : Obligation) (top : ℕ) (made : Change) (rows chunks saved clauses ats : List ℕ) →
-    Written s m o next top made rows chunks saved clauses ats → written s made rows chunks saved clauses ats ≡ moved s m
+moved-is : (unit : Bool) (s : State) (m : Move) (o next : Obligation) (top : ℕ) (made : Change) (rows chunks saved clauses ats : List ℕ) →
+    Written unit s m o next top made rows chunks saved clauses ats → written s made rows chunks saved clauses ats ≡ moved unit s m
 unfolding moved
-moved-is s m o next top made rows chunks saved clauses ats w =
+moved-is unit s m o next top made rows chunks saved clauses ats w =
     rw (w .facts, w .held, w .kept, w .change, w .clause, w .world, w .topmost, w .under, w .this) refl
 
 room-after : (m : Move) (o : Obligation) (w c k opened : ℕ) → room m w c k opened → opened ≤ mostOpen → changeOf m o opened .opened ≤ mostOpen
@@ -194,23 +195,23 @@ pub made-room : (m : Move) (o : Obligation) (w c k opened : ℕ) (made : Change)
 made-room m o w c k opened made e r h = rw e (room-after m o w c k opened r h)
 
 -- A whole turn: what is left of the walk, from the state that the turn has written.
-pub turn-on : (forms steps : List ℕ) (n i : ℕ) (s : State) (whole : Walked) (m : Move) (o next : Obligation) (top : ℕ) (j : Judged)
-    (made : Change) (rows chunks saved clauses ats : List ℕ) → whole ≡ ranFrom forms steps (n - i) i s → i < n → (s .opened ≡ 0 → ⊥) →
+pub turn-on : (unit : Bool) (forms steps : List ℕ) (n i : ℕ) (s : State) (whole : Walked) (m : Move) (o next : Obligation) (top : ℕ) (j : Judged)
+    (made : Change) (rows chunks saved clauses ats : List ℕ) → whole ≡ ranFrom unit forms steps (n - i) i s → i < n → (s .opened ≡ 0 → ⊥) →
     j ≡ judgeStep forms (s .rows) (s .clauses) (s .ats) (o .phase) top (stepIn steps i) (o .worlds) (o .clauses) (s .opened) →
-    j ≡ Fits m → Written s m o next top made rows chunks saved clauses ats →
-    whole ≡ ranFrom forms steps (n - (i + 1)) (i + 1) (written s made rows chunks saved clauses ats)
-turn-on forms steps n i s whole m o next top j made rows chunks saved clauses ats w early some ej fits wrote =
-    w ∙ turn forms steps n i s m early some (judged-is forms s (stepIn steps i) o top j (wrote .this) (wrote .topmost) ej ∙ fits) ∙
-    ap (ranFrom forms steps (n - (i + 1)) (i + 1)) (sym (moved-is s m o next top made rows chunks saved clauses ats wrote))
+    j ≡ Fits m → Written unit s m o next top made rows chunks saved clauses ats →
+    whole ≡ ranFrom unit forms steps (n - (i + 1)) (i + 1) (written s made rows chunks saved clauses ats)
+turn-on unit forms steps n i s whole m o next top j made rows chunks saved clauses ats w early some ej fits wrote =
+    w ∙ turn unit forms steps n i s m early some (judged-is forms s (stepIn steps i) o top j (wrote .this) (wrote .topmost) ej ∙ fits) ∙
+    ap (ranFrom unit forms steps (n - (i + 1)) (i + 1)) (sym (moved-is unit s m o next top made rows chunks saved clauses ats wrote))
 
 -- The first state.
-pub ran-is : (forms lines steps : List ℕ) (count goal n : ℕ) (rows clauses : List ℕ) (o : Obligation) (answer : Walked) →
+pub ran-is : (unit : Bool) (forms lines steps : List ℕ) (count goal n : ℕ) (rows clauses : List ℕ) (o : Obligation) (answer : Walked) →
     rows ≡ linesNoted forms lines count rootRows → clauses ≡ linesPut lines count (replicate clausePlaces 0) → o ≡ first goal count →
-    answer ≡ ranFrom forms steps n 0 (stateOf rows (firstStack o) 1 clauses (replicate clausePlaces 0)) →
-    answer ≡ ran forms lines steps count goal n
+    answer ≡ ranFrom unit forms steps n 0 (stateOf rows (firstStack o) 1 clauses (replicate clausePlaces 0)) →
+    answer ≡ ran unit forms lines steps count goal n
 unfolding ran begun
-ran-is forms lines steps count goal n rows clauses o answer er ec eo e =
-    e ∙ ap (λ (x : List ℕ). ranFrom forms steps n 0 (stateOf x (firstStack o) 1 clauses (replicate clausePlaces 0))) er ∙
-    ap (λ (x : List ℕ). ranFrom forms steps n 0 (stateOf (linesNoted forms lines count rootRows) (firstStack o) 1 x (replicate clausePlaces 0))) ec ∙
-    ap (λ (x : Obligation). ranFrom forms steps n 0
+ran-is unit forms lines steps count goal n rows clauses o answer er ec eo e =
+    e ∙ ap (λ (x : List ℕ). ranFrom unit forms steps n 0 (stateOf x (firstStack o) 1 clauses (replicate clausePlaces 0))) er ∙
+    ap (λ (x : List ℕ). ranFrom unit forms steps n 0 (stateOf (linesNoted forms lines count rootRows) (firstStack o) 1 x (replicate clausePlaces 0))) ec ∙
+    ap (λ (x : Obligation). ranFrom unit forms steps n 0
     (stateOf (linesNoted forms lines count rootRows) (firstStack x) 1 (linesPut lines count (replicate clausePlaces 0)) (replicate clausePlaces 0))) eo

@@ -1,5 +1,6 @@
 -- The walk through the steps over tables of numbers. Crate `walks` proves that it answers as document 01's walk does.
 use Prim.Native.Nat.{ℕ, zero, suc, _+_, _-_, _*_}
+use mathlib.Core.Bool.{Bool}
 use mathlib.Core.List.{List}
 use lib.ListN.{getD, set, replicate}
 use lib.Dec.{eqb}
@@ -49,15 +50,15 @@ obligationAt s i = getD (s .stack .obligations) i nothing
 abbrev pub current : State → Obligation
 current s = obligationAt s (s .opened - 1)
 
--- The move written into the tables.
-unfoldable pub moved : State → Move → State
+-- The move written into the tables, in the logic unit or plain.
+unfoldable pub moved : Bool → State → Move → State
 unfolding obligationAt changeOf chunkCount topChunk chunksAfter savedAfter block rowsAfter goalIn
-moved s m =
+moved unit s m =
     let o = current s in
     let c = changeOf m o (s .opened) in
     let saved = savedAfter (s .opened) (c .opened) (s .rows) (o .worlds) (s .stack .saved) in
     record {
-      rows = rowsAfter m o (obligationAt s (s .opened - 2)) (block mostPrincipals saved (s .opened - 2)) (s .rows);
+      rows = rowsAfter unit m o (obligationAt s (s .opened - 2)) (block mostPrincipals saved (s .opened - 2)) (s .rows);
       stack = record {
         obligations = set (set (s .stack .obligations) (s .opened) (c .upper)) (s .opened - 1) (c .lower);
         chunks = chunksAfter m (chunkCount (o .phase)) (s .opened - 1) (s .stack .chunks);
@@ -87,12 +88,12 @@ abbrev pub endedAt : ℕ → ℕ → Walked
 endedAt opened i = pick (eqb opened 0) Granted (refusedAt 12 i)
 
 -- n steps are left, from step number i (from 0) on: 11 where everything is closed.
-unfoldable pub ranFrom : List ℕ → List ℕ → ℕ → ℕ → State → Walked
+unfoldable pub ranFrom : Bool → List ℕ → List ℕ → ℕ → ℕ → State → Walked
 unfolding pick goOn judgedNow stepIn moved
-ranFrom forms steps zero i s = endedAt (s .opened) i
-ranFrom forms steps (suc n) i s =
+ranFrom unit forms steps zero i s = endedAt (s .opened) i
+ranFrom unit forms steps (suc n) i s =
     pick (eqb (s .opened) 0) (refusedAt 11 i)
-    (goOn (judgedNow forms s (stepIn steps i)) i (λ m. ranFrom forms steps n (i + 1) (moved s m)))
+    (goOn (judgedNow forms s (stepIn steps i)) i (λ m. ranFrom unit forms steps n (i + 1) (moved unit s m)))
 
 -- The policy lines from the last back to line 0: each is a clause at world 0, and an `sf` line is noted there.
 unfoldable pub lineNoted : List ℕ → ℕ → List ℕ → List ℕ
@@ -127,10 +128,10 @@ begun forms lines count goal =
       ats = replicate clausePlaces 0;
     }
 
--- The answer about the steps, for any tables and counts.
-unfoldable pub ran : List ℕ → List ℕ → List ℕ → ℕ → ℕ → ℕ → Walked
+-- The answer about the steps, in the logic unit or plain, for any tables and counts.
+unfoldable pub ran : Bool → List ℕ → List ℕ → List ℕ → ℕ → ℕ → ℕ → Walked
 unfolding ranFrom begun
-ran forms lines steps count goal stepCount = ranFrom forms steps stepCount 0 (begun forms lines count goal)
+ran unit forms lines steps count goal stepCount = ranFrom unit forms steps stepCount 0 (begun forms lines count goal)
 
 -- Document 01's number and place for each of the walk's answers.
 unfoldable pub walkedAnswer : Walked → Answer

@@ -1,6 +1,7 @@
 -- The chunks, and the saved rows of sf, of the open obligations, as many entries of a table for each as an obligation may have chunks, or a
 -- world rows of sf; and what a move makes of them and of the rows of facts.
 use Prim.Native.Nat.{ℕ, _+_, _-_, _*_}
+use mathlib.Core.Bool.{Bool}
 use mathlib.Core.List.{List}
 use lib.ListN.{getD, set, replicate}
 use lib.Dec.{leb}
@@ -65,18 +66,18 @@ unfoldable pub savedAfter : ℕ → ℕ → List ℕ → ℕ → List ℕ → Li
 unfolding pick putBlock sfRows
 savedAfter opened more rows worlds saved = pick (leb more opened) saved (putBlock mostPrincipals saved (opened - 1) (sfRows rows (worlds - 1)))
 
--- The rows of facts: a new world, a note, or the saved rows of sf of the obligation that is current next.
-unfoldable pub rowsAfter : Move → Obligation → Obligation → List ℕ → List ℕ → List ℕ
+-- The rows of facts, in the logic unit or plain: a new world, a note, or the saved rows of sf of the obligation that is current next.
+unfoldable pub rowsAfter : Bool → Move → Obligation → Obligation → List ℕ → List ℕ → List ℕ
 unfolding goalIn grownLe grownBy noted putSf
-rowsAfter move.Close o next kept rows = putSf rows (next .worlds - 1) kept
-rowsAfter (move.Go f) o next kept rows = rows
-rowsAfter (move.Aim f v) o next kept rows = rows
-rowsAfter (move.Both f h) o next kept rows = rows
-rowsAfter (move.Meet f h v) o next kept rows = rows
-rowsAfter (move.Less f h) o next kept rows = grownLe rows (goalIn (o .phase) .at .0) (o .worlds)
-rowsAfter (move.Speak a f) o next kept rows = grownBy rows (a .0) (goalIn (o .phase) .at .0) (o .worlds)
-rowsAfter move.Push o next kept rows = rows
-rowsAfter move.Drop o next kept rows = rows
-rowsAfter (move.Note a b) o next kept rows = noted rows (o .worlds - 1) (a .0) (b .0)
-rowsAfter (move.Split f h) o next kept rows = rows
-rowsAfter (move.Case f h) o next kept rows = rows
+rowsAfter unit move.Close o next kept rows = putSf rows (next .worlds - 1) kept
+rowsAfter unit (move.Go f) o next kept rows = rows
+rowsAfter unit (move.Aim f v) o next kept rows = rows
+rowsAfter unit (move.Both f h) o next kept rows = rows
+rowsAfter unit (move.Meet f h v) o next kept rows = rows
+rowsAfter unit (move.Less f h) o next kept rows = grownLe rows (goalIn (o .phase) .at .0) (o .worlds)
+rowsAfter unit (move.Speak a f) o next kept rows = grownBy unit rows (a .0) (goalIn (o .phase) .at .0) (o .worlds)
+rowsAfter unit move.Push o next kept rows = rows
+rowsAfter unit move.Drop o next kept rows = rows
+rowsAfter unit (move.Note a b) o next kept rows = noted rows (o .worlds - 1) (a .0) (b .0)
+rowsAfter unit (move.Split f h) o next kept rows = rows
+rowsAfter unit (move.Case f h) o next kept rows = rows

@@ -171,14 +171,14 @@ fn grow_less(rows: &mut [Row; ROWS], o: Obligation)
     facts::grow_le(rows, u, World(n));
 }
 
-fn grow_speak(rows: &mut [Row; ROWS], a: Principal, o: Obligation)
-    ensures { λ _. ⌜ now (rows .exit) ≡ grownBy (now (rows .entry)) (a .0) (goalIn (o .phase) .at .0) (o .worlds) ⌝ }
+fn grow_speak(rows: &mut [Row; ROWS], unit: bool, a: Principal, o: Obligation)
+    ensures { λ _. ⌜ now (rows .exit) ≡ grownBy unit (now (rows .entry)) (a .0) (goalIn (o .phase) .at .0) (o .worlds) ⌝ }
 {
     let phase = o.phase;
     let n = o.worlds;
     let g = changes::goal_in(phase);
     let u = g.at;
-    facts::grow_by(rows, a, u, World(n));
+    facts::grow_by(rows, unit, a, u, World(n));
 }
 
 fn note_newest(rows: &mut [Row; ROWS], a: Principal, b: Principal, o: Obligation)
@@ -191,13 +191,14 @@ fn note_newest(rows: &mut [Row; ROWS], a: Principal, b: Principal, o: Obligation
 fn move_rows(
     rows: &mut [Row; ROWS],
     saved: &[Row; SAVED],
+    unit: bool,
     m: Move,
     o: Obligation,
     next: Obligation,
     below: u16,
 )
     requires { ⌜ below < places ⌝ }
-    ensures { λ _. ⌜ now (rows .exit) ≡ rowsAfter m o next (block mostPrincipals (now (saved .entry)) below) (now (rows .entry)) ⌝ }
+    ensures { λ _. ⌜ now (rows .exit) ≡ rowsAfter unit m o next (block mostPrincipals (now (saved .entry)) below) (now (rows .entry)) ⌝ }
 {
     match m {
         Move::Close => put_back(rows, saved, next, below),
@@ -206,7 +207,7 @@ fn move_rows(
         Move::Both(_, _) => {}
         Move::Meet(_, _, _) => {}
         Move::Less(_, _) => grow_less(rows, o),
-        Move::Speak(a, _) => grow_speak(rows, a, o),
+        Move::Speak(a, _) => grow_speak(rows, unit, a, o),
         Move::Push => {}
         Move::Drop => {}
         Move::Note(a, b) => note_newest(rows, a, b, o),
@@ -220,6 +221,7 @@ pub(crate) fn move_tables(
     rows: &mut [Row; ROWS],
     chunks: &mut [u16; HELD],
     saved: &mut [Row; SAVED],
+    unit: bool,
     m: Move,
     o: Obligation,
     next: Obligation,
@@ -228,12 +230,12 @@ pub(crate) fn move_tables(
 )
     requires { ⌜ opened < places ⌝ }
     ensures { λ _. ⌜ now (saved .exit) ≡ savedAfter opened more (now (rows .entry)) (o .worlds) (now (saved .entry)) ⌝ }
-    ensures { λ _. ⌜ now (rows .exit) ≡ rowsAfter m o next (block mostPrincipals (now (saved .exit)) (opened - 2)) (now (rows .entry)) ⌝ }
+    ensures { λ _. ⌜ now (rows .exit) ≡ rowsAfter unit m o next (block mostPrincipals (now (saved .exit)) (opened - 2)) (now (rows .entry)) ⌝ }
     ensures { λ _. ⌜ now (chunks .exit) ≡ chunksAfter m (chunkCount (o .phase)) (opened - 1) (now (chunks .entry)) ⌝ }
 {
     let place = changes::less_by(opened, 1);
     let below = changes::less_by(opened, 2);
     save_rows(saved, rows, o, opened, more);
-    move_rows(rows, saved, m, o, next, below);
+    move_rows(rows, saved, unit, m, o, next, below);
     move_chunks(chunks, m, o, place);
 }

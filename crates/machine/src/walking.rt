@@ -102,17 +102,18 @@ fn end_at(opened: u16, i: u16) -> Walked
     Walked::Granted
 }
 
-// All steps, from one open obligation on.
+// All steps, from one open obligation on, in the logic unit or plain.
 fn run_steps(
     forms: &[u16],
     steps: &[u16],
+    unit: bool,
     total: u16,
     rows: &mut [Row; ROWS],
     clauses: &mut [u16; CLAUSES],
     ats: &mut [u16; CLAUSES],
     begun: Obligation,
 ) -> Walked
-    ensures { λ r. ⌜ r ≡ ranFrom (now (forms .entry)) (now (steps .entry)) total 0 (stateOf (now (rows .entry)) (firstStack begun) 1 (now (clauses .entry)) (now (ats .entry))) ⌝ }
+    ensures { λ r. ⌜ r ≡ ranFrom unit (now (forms .entry)) (now (steps .entry)) total 0 (stateOf (now (rows .entry)) (firstStack begun) 1 (now (clauses .entry)) (now (ats .entry))) ⌝ }
 {
     let mut stack = [begun; OPENED];
     let mut chunks = [0; HELD];
@@ -132,7 +133,17 @@ fn run_steps(
         let made = changes::change_of(m, o, opened);
         let more = made.opened;
         let next = stack[changes::less_by(opened, 2) as usize];
-        blocks::move_tables(rows, &mut chunks, &mut saved, m, o, next, opened, more);
+        blocks::move_tables(
+            rows,
+            &mut chunks,
+            &mut saved,
+            unit,
+            m,
+            o,
+            next,
+            opened,
+            more,
+        );
         put_clause(clauses, ats, o, top);
         let upper = made.upper;
         let lower = made.lower;
@@ -143,16 +154,17 @@ fn run_steps(
     end_at(opened, total)
 }
 
-// The answer about the steps, for any tables and counts: count policy lines, total steps.
+// The answer about the steps, in the logic unit or plain, for any tables and counts: count policy lines, total steps.
 pub fn walk_steps(
     forms: &[u16],
     lines: &[u16],
     steps: &[u16],
+    unit: bool,
     count: u16,
     goal: u16,
     total: u16,
 ) -> Walked
-    ensures { λ r. ⌜ r ≡ ran (now (forms .entry)) (now (lines .entry)) (now (steps .entry)) count goal total ⌝ }
+    ensures { λ r. ⌜ r ≡ ran unit (now (forms .entry)) (now (lines .entry)) (now (steps .entry)) count goal total ⌝ }
 {
     let mut rows = [0; ROWS];
     let mut clauses = [0; CLAUSES];
@@ -163,6 +175,7 @@ pub fn walk_steps(
     run_steps(
         forms,
         steps,
+        unit,
         total,
         &mut rows,
         &mut clauses,

@@ -10,6 +10,7 @@ use lib.ListN.{length, take, replicate}
 use lib.Seq.{take-append-seam}
 use Rattle.scope.specs.Call.Answer.{Answer, told, answer, refusalIn, placeIn, columnIn}
 use Rattle.scope.specs.File.Request.{Request}
+use Rattle.scope.specs.File.Kinds.{logicNumber, logicOf}
 use Rattle.scope.specs.File.Text.{requestText}
 use Rattle.scope.specs.File.Reader.{Outcome, read, refused}
 use Rattle.scope.specs.Call.Tables.{Lent, requestOf, lentOf, padded}
@@ -20,6 +21,7 @@ use Rattle.demands.specs.Ranges.{reading-firm}
 use Rattle.common.specs.declared.Counts.{Counts}
 use Rattle.checks.specs.Met.{lentWith}
 use Rattle.reader.specs.Answers.{countsOf}
+use Rattle.gatelib.specs.Printing.{lent-is}
 use Rattle.writer.specs.declared.Writing.{Writing}
 use Rattle.writer.specs.Writing.{writingOf, writing-is}
 use Rattle.peraduksi.specs.declared.Read.{Read}
@@ -82,11 +84,22 @@ text-stands {counts} {forms} {policy} {steps} {out} {r} {o} w =
 
 -- Counts, goal and tables as a reading of a request leaves them.
 left-counts : (t : Lent) (q : Request) (f p s : ℕ) → lentOf f p s q ≡ t → countsOf q
-    ≡ record { principals = t .principals; atoms = t .atoms; formulas = t .formulas; policy = t .policy; goal = t .goal; steps = t .steps }
+    ≡ record {
+      version = t .version;
+      logic = logicNumber (t .logic);
+      principals = t .principals;
+      atoms = t .atoms;
+      formulas = t .formulas;
+      policy = t .policy;
+      goal = t .goal;
+      steps = t .steps;
+    }
 unfolding lentOf
 left-counts t q f p s e =
     λ i.
     record {
+      version = e i .version;
+      logic = logicNumber (e i .logic);
       principals = e i .principals;
       atoms = e i .atoms;
       formulas = e i .formulas;
@@ -95,13 +108,48 @@ left-counts t q f p s e =
       steps = e i .steps;
     }
 
--- Reading what was written, into tables of the same lengths, gives counts, goal and tables back.
+-- The counts with 1 for every number that tells unit: the very counts, where the logic is told by 0 or 1.
+abbrev pub said : Counts → Counts
+said c =
+    record {
+      version = c .version;
+      logic = logicNumber (logicOf (c .logic));
+      principals = c .principals;
+      atoms = c .atoms;
+      formulas = c .formulas;
+      policy = c .policy;
+      goal = c .goal;
+      steps = c .steps;
+    }
+
+pub said-same : (c : Counts) → c .logic ≤ 1 → said c ≡ c
+unfolding logicOf
+said-same c h =
+    let z = same (c .logic) h in
+    λ i.
+    record {
+      version = c .version;
+      logic = z i;
+      principals = c .principals;
+      atoms = c .atoms;
+      formulas = c .formulas;
+      policy = c .policy;
+      goal = c .goal;
+      steps = c .steps;
+    }
+  where
+    same : (n : ℕ) → n ≤ 1 → logicNumber (logicOf n) ≡ n
+    same zero k = refl
+    same (suc zero) k = refl
+    same (suc (suc n)) k = absurd (omega arith)
+
+-- Reading what was written, into tables of the same lengths, gives version, logic, counts, goal and tables back.
 pub written-reads : {counts : Counts} {forms policy steps out : List ℕ} {w : Writing} {o : List ℕ} {forms₀ policy₀ steps₀ : List ℕ} {r : Read}
     {f p s : List ℕ} →
     Wrote counts forms policy steps out w o → w .refusal ≡ 0 →
     length forms₀ ≡ length forms → length policy₀ ≡ length policy → length steps₀ ≡ length steps →
     Did-read (take (w .length) o) forms₀ policy₀ steps₀ r f p s →
-    (r ≡ record { refusal = 0; place = 0; column = 0; counts = counts }) × (f ≡ forms) × (p ≡ policy) × (s ≡ steps)
+    (r ≡ record { refusal = 0; place = 0; column = 0; counts = said counts }) × (f ≡ forms) × (p ≡ policy) × (s ≡ steps)
 unfolding writingOf readOf refusalIn placeIn columnIn outcomeAnswer requestIn lentAfter lentOf formTableAfter policyTableAfter stepTableAfter
 written-reads {counts} {forms} {policy} {steps} {out} {w} {o} {forms₀} {policy₀} {steps₀} {r} {f} {p} {s} a e lf lp ls d =
     let t = lentWith counts forms policy steps in
@@ -139,7 +187,7 @@ read-writes {text} {forms} {policy} {steps} {r} {f} {p} {s} {out} {w} {o} d e h 
         let policy-is = d .policyLeft ∙ ap (policyTableAfter (length policy)) g in
         let steps-are = d .stepsLeft ∙ ap (stepTableAfter (length steps)) g in
         let whole : lentWith (r .counts) f p s ≡ lentAfter (length forms) (length policy) (length steps) (read q) =
-        (λ i. lentWith (counts i) (forms-are i) (policy-is i) (steps-are i)) in
+        (λ i. lentWith (counts i) (forms-are i) (policy-is i) (steps-are i)) ∙ lent-is (length forms) (length policy) (length steps) q in
         let x : writing (lentWith (r .counts) f p s) (length out) ≡ written text =
         ap (λ (t : Lent). writing t (length out)) whole ∙ trip-read (length forms) (length policy) (length steps) (length out) text q g h in
         (a .answered ∙ ap writingOf x, a .output ∙ ap (outputAfter (length out)) x)

@@ -15,7 +15,7 @@ use gatelib::Printed;
 use reader::Reading;
 use writer::Writing;
 
-// The refusal, 0 where there is none, its place, for 2 the column, and the counts and the goal, all 0 if refused.
+// The refusal, 0 where there is none, its place, for 2 the column, and version and logic, the counts and the goal, all 0 if refused.
 #[repr(C)]
 pub struct Read {
     pub refusal: u16,
@@ -39,6 +39,8 @@ fn read_in(got: Reading) -> Read
             place: r.place,
             column: r.column,
             counts: Counts {
+                version: 0,
+                logic: 0,
                 principals: 0,
                 atoms: 0,
                 formulas: 0,

@@ -46,7 +46,7 @@ many-step-ends p a f = many-ends (stepItem p a) f [] (λ b. line-ends _ _ _)
 many-clause-ends : (cs : List ℕ) (n f : ℕ) → Ends (many (classedItem cs n) f [])
 many-clause-ends cs n f = many-ends (classedItem cs n) f [] (λ b. line-ends _ _ _)
 
--- The formulas: the first four lines, then the `form=` lines.
+-- The formulas: three counts, then the `form=` lines.
 module _ (s : List ℕ) where
   formulas-at-head : (z : Answer) → headPart s ≡ bad z → formulasPart s ≡ bad z
   unfolding formulasPart _>>=_ andThen
@@ -67,7 +67,7 @@ module _ (s : List ℕ) where
   pub formulas-stopped : (x : Returned) → partOf headCounts (length s) (headPart s) ≡ Part.Refused x → formulasPart s ≡ bad (answerIs x)
   formulas-stopped x e = formulas-at-head (answerIs x) (part-lost headCounts (length s) (headPart s) x e)
 
--- The first four lines as the code has them.
+-- The three counts as the code has them.
 pub record Head-kept (s : List ℕ) : Type 0 where
   pub counts : Counts
   pub at : ℕ
@@ -135,7 +135,7 @@ module _ {s : List ℕ} (k : Head-kept s) where
     forms-counted : k .counts ≡ formulasCounts joined
     forms-counted =
         headRead .counted ∙
-        (λ i. record { principals = headRead .thing .principals; atoms = headRead .thing .atoms; formulas = many-forms i; policy = 0; goal = 0; steps = 0 })
+        (λ i. record { version = 0; logic = 0; principals = headRead .thing .principals; atoms = headRead .thing .atoms; formulas = many-forms i; policy = 0; goal = 0; steps = 0 })
 
     pub forms-joined : (Part.Read (k .counts) (k .at + m .at) ≡ partOf formulasCounts (length s) (formulasPart s)) ×
         ((f : Formulas) (rest : List ℕ) → formulasPart s ≡ ok f rest → m .numbers ≡ table formEntry (m .len) (f .forms))
@@ -292,7 +292,7 @@ module _ {numbers : List ℕ} {n : ℕ} {s : List ℕ} (k : Clauses-kept numbers
       -- With the counts c before the policy, the code makes these.
       abbrev pub policyCounted : Counts → Counts
       policyCounted c =
-          record { principals = c .principals; atoms = c .atoms; formulas = c .formulas; policy = k .count; goal = goal; steps = 0 }
+          record { version = c .version; logic = c .logic; principals = c .principals; atoms = c .atoms; formulas = c .formulas; policy = k .count; goal = goal; steps = 0 }
 
       pub policy-joined : (c : Counts) →
           (Part.Read (policyCounted c) (length s - length rest) ≡ partOf (policyCounts c) (length s) (policyPart (unpack formEntry n numbers) s)) ×
@@ -301,7 +301,7 @@ module _ {numbers : List ℕ} {n : ℕ} {s : List ℕ} (k : Clauses-kept numbers
       policy-joined c = (
         part-read (policyCounts c) (length s) (policyPart (rows numbers n) s) (policyCounted c) (length s - length rest)
             record { policy = linesGot .things; goal = goal } rest policy-is
-            (λ i. record { principals = c .principals; atoms = c .atoms; formulas = c .formulas; policy = sym many-lines i; goal = goal; steps = 0 }) refl,
+            (λ i. record { version = c .version; logic = c .logic; principals = c .principals; atoms = c .atoms; formulas = c .formulas; policy = sym many-lines i; goal = goal; steps = 0 }) refl,
         λ p over h. m .stored (linesGot .things) (linesGot .rest) (linesGot .is) ∙ ap (λ y. table policyEntry (m .len) (y .policy))
             (same-things (policyPart (rows numbers n) s) record { policy = linesGot .things; goal = goal } p rest over policy-is h),
       )
@@ -360,7 +360,7 @@ module _ {formulas clauses : ℕ} {s : List ℕ} (k : Steps-counted formulas cla
     -- With the counts c before the steps, the code makes these.
     abbrev pub stepsCounted : Counts → Counts
     stepsCounted c =
-        record { principals = c .principals; atoms = c .atoms; formulas = c .formulas; policy = c .policy; goal = c .goal; steps = k .count }
+        record { version = c .version; logic = c .logic; principals = c .principals; atoms = c .atoms; formulas = c .formulas; policy = c .policy; goal = c .goal; steps = k .count }
 
     many-rows : k .count ≡ length (rowsGot .things)
     many-rows = sym (many-length (stepItem formulas clauses) (k .count) [] (k .rest) (rowsGot .things) (rowsGot .rest) (rowsGot .is))
@@ -371,7 +371,7 @@ module _ {formulas clauses : ℕ} {s : List ℕ} (k : Steps-counted formulas cla
     steps-joined c = (
       part-read (stepsCounts c) (length s) (stepsPart formulas clauses s) (stepsCounted c) (length s - length (k .rest) + m .at) (rowsGot .things) (rowsGot .rest)
           (whole ∙ rowsGot .is)
-          (λ i. record { principals = c .principals; atoms = c .atoms; formulas = c .formulas; policy = c .policy; goal = c .goal; steps = many-rows i }) rows-taken,
+          (λ i. record { version = c .version; logic = c .logic; principals = c .principals; atoms = c .atoms; formulas = c .formulas; policy = c .policy; goal = c .goal; steps = many-rows i }) rows-taken,
       λ rows rest g. m .stored (rowsGot .things) (rowsGot .rest) (rowsGot .is) ∙ ap (table stepEntry (m .len))
           (same-things (stepsPart formulas clauses s) (rowsGot .things) rows (rowsGot .rest) rest (whole ∙ rowsGot .is) g),
     )

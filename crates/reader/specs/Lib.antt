@@ -11,3 +11,4 @@ pub mod FormTurns
 pub mod Got
 pub mod Joins
 pub mod Outcomes
+pub mod Starts

@@ -12,15 +12,18 @@ use lib.ListN.{length, getD}
 use Rattle.scope.specs.Call.Answer.{columnFor}
 use Rattle.scope.specs.Tools.Tests.{never}
 use Rattle.scope.specs.Logic.Form.{both}
+use Rattle.scope.specs.Logic.Facts.{Logic}
 use Rattle.scope.specs.File.Request.{Row}
 use Rattle.scope.specs.File.Bytes.{bytes}
 use Rattle.scope.specs.File.Number.{number}
 use Rattle.scope.specs.File.Line.{Value, val, out, Line, ok, bad, orRefused, shapedAs, placed, lineStop, line}
-use Rattle.scope.specs.File.Kinds.{Kind, items, ontoFirst, numbers, kindFrom, same, kindRow, itemsRow, rowIn, formKinds, stepKinds}
-use Rattle.scope.specs.File.Text.{numberLine, rowLine}
+use Rattle.scope.specs.File.Kinds.{Kind, items, ontoFirst, numbers, kindFrom, same, kindRow, itemsRow, rowIn, formKinds, stepKinds, logicKinds, logicNumber, logicOf, logicIn, logicWord}
+use Rattle.scope.specs.File.Text.{numberLine, logicLine, rowLine}
 use Rattle.scope.specs.File.Refusals.{demand, countRefusal, stepRefusal}
 use Rattle.lines.specs.Parts.{valueOf, restOf, line-parts}
 use Rattle.lines.specs.Values.{Behind, rest-behind}
+use Rattle.lines.specs.Words.{logicPlace}
+use Rattle.trip.specs.Words.{word-found}
 use Rattle.scope.specs.File.Stops.{numberStop}
 use Rattle.lines.specs.Answers.{numberAnswer, rowAnswer}
 use Rattle.lines.specs.Operands.{number-some, number-none}
@@ -32,7 +35,8 @@ use Rattle.steps.specs.declared.Step.{Step}
 use Rattle.steps.specs.Steps.{pair, stepFrom, pairOf, pair-back}
 use Rattle.refusals.specs.Rows.{row, step-small, classRefusal}
 use Rattle.reader.specs.Sections.{belowRefusal}
-use Rattle.reader.specs.Answers.{refusedAt, numberLineOf, rowLineOf, stepLineOf}
+use Rattle.reader.specs.Answers.{refusedAt, numberLineOf, logicLineOf, rowLineOf, stepLineOf}
+use Rattle.reader.specs.declared.NumberLine.{NumberLine}
 use Rattle.reader.specs.declared.NumberLine.the-variants as NumberLine
 use Rattle.reader.specs.declared.RowLine.the-variants as RowLine
 use Rattle.reader.specs.declared.StepLine.the-variants as StepLine
@@ -164,6 +168,66 @@ module _ {A : Type 0} (l : Line A) (refusal : A → ℕ) (s v : List ℕ) (part 
           let f = judged-none refusal (l .shape .thing []) empty in
           never cc
       go (b ∷ t) e = omega arith
+
+-- The line of the logic.
+no-logic : logicWord [] ≡ none
+unfolding logicWord kindFrom logicKinds same logicIn
+no-logic = refl
+
+abbrev pub logicAsked : List ℕ → NumberLine
+logicAsked v = logicLineOf (shapedAs (λ l. 0) (logicWord v))
+
+pub logic-none : (v : List ℕ) → logicPlace (kindFrom 0 logicKinds v) ≡ 2 → NumberLine.Refused 2 ≡ logicAsked v
+unfolding logicWord logicIn logicPlace logicLineOf shapedAs
+logic-none v e = go (kindFrom 0 logicKinds v) refl e
+  where
+    go : (x : Option ℕ) → kindFrom 0 logicKinds v ≡ x → logicPlace x ≡ 2 → NumberLine.Refused 2 ≡ logicAsked v
+    go none d h = rw d refl
+    go (some n) d h =
+        let k = word-found logicKinds v n d .below in
+        let z : n < 2 = unfold logicKinds in k in
+        absurd (omega arith)
+
+pub logic-some : (v : List ℕ) (n : ℕ) → n ≡ logicPlace (kindFrom 0 logicKinds v) → (n ≡ 2 → ⊥) → NumberLine.Number n ≡ logicAsked v
+unfolding logicWord logicIn logicOf logicPlace logicLineOf shapedAs orRefused
+logic-some v n e h = go (kindFrom 0 logicKinds v) refl e
+  where
+    told : (m : ℕ) → m < 2 → m ≡ logicNumber (logicOf m)
+    told zero k = refl
+    told (suc zero) k = refl
+    told (suc (suc m)) k = absurd (omega arith)
+
+    go : (x : Option ℕ) → kindFrom 0 logicKinds v ≡ x → n ≡ logicPlace x → NumberLine.Number n ≡ logicAsked v
+    go none d p = absurd (h p)
+    go (some m) d p =
+        let k = word-found logicKinds v m d .below in
+        let z : m < 2 = unfold logicKinds in k in
+        rw (d, p) (ap (λ (j : ℕ). NumberLine.Number j) (told m z))
+
+pub logic-bad : (i k : ℕ) (s : List ℕ) → logicAsked (valueOf (bytes "logic=") s) ≡ NumberLine.Refused k →
+    line logicLine (λ l. 0) i s ≡ bad (refusedAt logicLine k i s)
+unfolding logicLineOf
+logic-bad i k s e =
+    line-bad logicLine (λ l. 0) s (valueOf (bytes "logic=") s) refl no-logic i k (back (shapedAs (λ l. 0) (logicWord (valueOf (bytes "logic=") s))) e)
+  where
+    back : (v : Value Logic) → logicLineOf v ≡ NumberLine.Refused k → v ≡ out k
+    back (val l) e = never cc
+    back (out j) e = cc
+
+pub record Logic-read (i n : ℕ) (s rest : List ℕ) : Type 0 where
+  pub logic : Logic
+  pub number : n ≡ logicNumber logic
+  pub is : line logicLine (λ l. 0) i s ≡ ok logic rest
+
+pub logic-ok : (i n : ℕ) (s rest : List ℕ) → rest ≡ restOf s → logicAsked (valueOf (bytes "logic=") s) ≡ NumberLine.Number n → Logic-read i n s rest
+unfolding logicLineOf
+logic-ok i n s rest r e = go (shapedAs (λ l. 0) (logicWord (valueOf (bytes "logic=") s))) refl e
+  where
+    go : (v : Value Logic) → shapedAs (λ l. 0) (logicWord (valueOf (bytes "logic=") s)) ≡ v → logicLineOf v ≡ NumberLine.Number n → Logic-read i n s rest
+    go (val l) d h =
+        let z : logicNumber l ≡ n = cc in
+        record { logic = l; number = sym z; is = line-ok logicLine (λ l. 0) s (valueOf (bytes "logic=") s) refl no-logic i l rest r d }
+    go (out j) d h = never cc
 
 module _ (key : String) (refusal : ℕ → ℕ) (s v : List ℕ) (part : v ≡ valueOf (bytes key) s) where
   pub value-ok : (i : ℕ) (rest : List ℕ) (n : ℕ) → rest ≡ restOf s → numberLineOf (shapedAs refusal (number v)) ≡ NumberLine.Number n

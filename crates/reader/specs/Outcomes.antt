@@ -13,7 +13,7 @@ use Rattle.scope.specs.Logic.Form.{both}
 use Rattle.scope.specs.File.Request.{Row, Request}
 use Rattle.scope.specs.File.Line.{Read, ok, bad, andThen, _>>=_}
 use Rattle.scope.specs.Limits.{mostBytes, mostFormulas, mostPolicyLines, mostSteps, endAt}
-use Rattle.scope.specs.File.Reader.{Outcome, read, refused, ended, readRequest}
+use Rattle.scope.specs.File.Reader.{Outcome, read, refused, readRequest}
 use Rattle.scope.specs.Call.Tables.{formEntry, policyEntry, stepEntry, table, unpack, hasRoom}
 use Rattle.scope.specs.Call.Calls.{reading, requestIn, formTableAfter, policyTableAfter, stepTableAfter}
 use Rattle.common.specs.Answers.{answerOf, answerIs, answer-back}
@@ -23,7 +23,7 @@ use Rattle.reader.specs.Sections.{Formulas, PolicyRead, formulasPart, po
 use Rattle.reader.specs.Answers.{countsOf, readingOf, formulasCounts, policyCounts, stepsCounts, partOf}
 use Rattle.reader.specs.Many.{tail-length}
 use Rattle.reader.specs.Stored.{table-none, unpack-table}
-use Rattle.reader.specs.Whole.{requestWith, sections, request-sections, formulas-ends, policy-ends, steps-ends}
+use Rattle.reader.specs.Whole.{requestWith, bodyEnded, bodyRequest, sections, body-sections, formulas-ends, policy-ends, steps-ends}
 use Rattle.reader.specs.Got.{partFrom, part-is, Part-got, part-got, part-lost}
 use Rattle.reader.specs.declared.Reading.the-variants as Reading
 use Rattle.reader.specs.declared.Part.the-variants as Part
@@ -36,19 +36,19 @@ same-request : (o : Outcome) (p q : Request) → o ≡ read p → o ≡ read q �
 same-request o p q e f = cc
 
 module _ (t : List ℕ) where
-  read-refused : (z : Answer) → sections t ≡ bad z → readRequest t ≡ refused z
-  unfolding readRequest ended
-  read-refused z e = rw (request-sections t, e) refl
+  read-refused : (z : Answer) → sections t ≡ bad z → bodyRequest t ≡ refused z
+  unfolding bodyRequest bodyEnded
+  read-refused z e = rw (body-sections t, e) refl
 
-  read-over : (q : Request) (v : List ℕ) → sections t ≡ ok q v → 0 < length v → readRequest t ≡ refused (answer 6
+  read-over : (q : Request) (v : List ℕ) → sections t ≡ ok q v → 0 < length v → bodyRequest t ≡ refused (answer 6
       (endAt (length (q .forms)) (length (q .policy)) (length (q .steps))))
-  unfolding readRequest ended
+  unfolding bodyRequest bodyEnded
   read-over q [] e h = absurd (omega arith)
-  read-over q (b ∷ v) e h = rw (request-sections t, e) refl
+  read-over q (b ∷ v) e h = rw (body-sections t, e) refl
 
-  read-whole : (q : Request) (v : List ℕ) → sections t ≡ ok q v → length v ≡ 0 → readRequest t ≡ read q
-  unfolding readRequest ended
-  read-whole q [] e h = rw (request-sections t, e) refl
+  read-whole : (q : Request) (v : List ℕ) → sections t ≡ ok q v → length v ≡ 0 → bodyRequest t ≡ read q
+  unfolding bodyRequest bodyEnded
+  read-whole q [] e h = rw (body-sections t, e) refl
   read-whole q (b ∷ v) e h = absurd (omega arith)
 
   file-at-formulas : (z : Answer) → formulasPart t ≡ bad z → sections t ≡ bad z
@@ -70,7 +70,7 @@ module _ (t : List ℕ) where
       unfolding sections _>>=_ andThen
       file-whole rows v c = rw a (rw b (rw c refl))
 
-  pub formulas-end : (x : Returned) → partOf formulasCounts (length t) (formulasPart t) ≡ Part.Refused x → readRequest t ≡ refused (answerIs x)
+  pub formulas-end : (x : Returned) → partOf formulasCounts (length t) (formulasPart t) ≡ Part.Refused x → bodyRequest t ≡ refused (answerIs x)
   formulas-end x e =
       read-refused (answerIs x) (file-at-formulas (answerIs x) (part-lost formulasCounts (length t) (formulasPart t) x e))
 
@@ -134,7 +134,7 @@ module _ {t : List ℕ} (k : Formulas-kept t) where
   same-policy : policyRead k ≡ policyPart (fg .thing .forms) (fg .rest)
   same-policy = λ i. policyPart (rows-are i) (second i)
 
-  pub policy-end : (x : Returned) → partOf (policyCounts (k .counts)) (length (behindFormulas k)) (policyRead k) ≡ Part.Refused x → readRequest t
+  pub policy-end : (x : Returned) → partOf (policyCounts (k .counts)) (length (behindFormulas k)) (policyRead k) ≡ Part.Refused x → bodyRequest t
       ≡ refused (answerIs x)
   policy-end x d =
       read-refused t (answerIs x)
@@ -161,7 +161,7 @@ module _ {t : List ℕ} (k : Formulas-kept t) where
     same-steps : stepsRead p ≡ stepsPart (length (fg .thing .forms)) (length (pg .thing .policy)) (pg .rest)
     same-steps = λ i. stepsPart (counted i .formulas) (counted i .policy) (third i)
 
-    pub steps-end : (x : Returned) → partOf (stepsCounts (p .counts)) (length (behindPolicy p)) (stepsRead p) ≡ Part.Refused x → readRequest t
+    pub steps-end : (x : Returned) → partOf (stepsCounts (p .counts)) (length (behindPolicy p)) (stepsRead p) ≡ Part.Refused x → bodyRequest t
         ≡ refused (answerIs x)
     steps-end x h =
         read-refused t (answerIs x)
@@ -187,7 +187,7 @@ module _ {t : List ℕ} (k : Formulas-kept t) where
       all-counted : s .counts ≡ countsOf joined
       all-counted = sg .counted ∙ ap (λ c. stepsCounts c (sg .thing)) counted
 
-      pub bytes-after : s .at < length (behindPolicy p) → readRequest t
+      pub bytes-after : s .at < length (behindPolicy p) → bodyRequest t
           ≡ refused (answer 6 (endAt (s .counts .formulas) (s .counts .policy) (s .counts .steps)))
       bytes-after l =
           read-over t joined (sg .rest) all-lines (omega (arith, sg .place)) ∙
@@ -198,21 +198,21 @@ module _ {t : List ℕ} (k : Formulas-kept t) where
       counts-are = ap Reading.Read all-counted
 
       -- The answer, and the three tables, of a text that ends with its steps.
-      pub all-read : length (behindPolicy p) ≤ s .at → (Reading.Read (s .counts) ≡ readingOf (readRequest t)) ×
-          (((q : Request) → readRequest t ≡ read q → k .numbers ≡ table formEntry (k .len) (q .forms)) ×
-          (((q : Request) → readRequest t ≡ read q → p .numbers ≡ table policyEntry (p .len) (q .policy)) ×
-          ((q : Request) → readRequest t ≡ read q → s .numbers ≡ table stepEntry (s .len) (q .steps))))
+      pub all-read : length (behindPolicy p) ≤ s .at → (Reading.Read (s .counts) ≡ readingOf (bodyRequest t)) ×
+          (((q : Request) → bodyRequest t ≡ read q → k .numbers ≡ table formEntry (k .len) (q .forms)) ×
+          (((q : Request) → bodyRequest t ≡ read q → p .numbers ≡ table policyEntry (p .len) (q .policy)) ×
+          ((q : Request) → bodyRequest t ≡ read q → s .numbers ≡ table stepEntry (s .len) (q .steps))))
       all-read l =
           let o = read-whole t joined (sg .rest) all-lines (omega (arith, sg .place, over-short)) in (
             counts-are ∙ ap readingOf (sym o),
             (
               (λ q z. k .stored (fg .thing) (fg .rest) (fg .is) ∙ ap (λ u. table formEntry (k .len) (u .forms))
-                  (same-request (readRequest t) joined q o z)),
+                  (same-request (bodyRequest t) joined q o z)),
               (
                 (λ q z. p .stored (pg .thing) (pg .rest) (pg .is) ∙ ap (λ u. table policyEntry (p .len) (u .policy))
-                    (same-request (readRequest t) joined q o z)),
+                    (same-request (bodyRequest t) joined q o z)),
                 (λ q z. s .stored (sg .thing) (sg .rest) (sg .is) ∙ ap (λ u. table stepEntry (s .len) (u .steps))
-                    (same-request (readRequest t) joined q o z)),
+                    (same-request (bodyRequest t) joined q o z)),
               ),
             ),
           )

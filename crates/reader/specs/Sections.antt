@@ -4,15 +4,28 @@ use mathlib.Core.List.{List, []}
 use lib.Dec.{ltb}
 use lib.ListN.{length}
 use Rattle.refusals.specs.Rows.{classRefusal}
+use Rattle.scope.specs.Logic.Facts.{Logic}
 use Rattle.scope.specs.File.Request.{Row}
 use Rattle.scope.specs.File.Line.{Reader, line, many, done, _>>=_}
 use Rattle.scope.specs.Limits.{versionAt, principalsAt, atomsAt, formulasAt, clausesAt, clauseAt, goalAt, stepsAt}
 use Rattle.scope.specs.File.Refusals.{demand, versionRefusal, principalsRefusal, atomsRefusal, formulasRefusal, clausesRefusal, goalRefusal, stepsRefusal}
 use Rattle.scope.specs.File.Text.{versionLine, principalsLine, atomsLine, formulasLine, clausesLine, clauseLine, goalLine, stepsLine}
-use Rattle.scope.specs.File.Reader.{formItem, clauseItem, stepItem}
+use Rattle.scope.specs.File.Reader.{formItem, clauseItem, stepItem, readLogic}
 use Rattle.classes.specs.Class.{policyIn}
 
--- The first four lines.
+-- The first line, and in version 2 the second.
+pub record Told : Type 0 where
+  pub version : ℕ
+  pub logic : Logic
+
+unfoldable pub startPart : Reader Told
+unfolding line readLogic _>>=_
+startPart = do
+  version ← line versionLine versionRefusal versionAt
+  logic ← readLogic version
+  done record { version = version; logic = logic }
+
+-- The three lines behind them.
 pub record Counted : Type 0 where
   pub principals : ℕ
   pub atoms : ℕ
@@ -21,7 +34,6 @@ pub record Counted : Type 0 where
 unfoldable pub headPart : Reader Counted
 unfolding line _>>=_
 headPart = do
-  version ← line versionLine versionRefusal versionAt
   principals ← line principalsLine principalsRefusal principalsAt
   atoms ← line atomsLine atomsRefusal atomsAt
   formulas ← line formulasLine formulasRefusal formulasAt

@@ -13,9 +13,9 @@ use Rattle.scope.specs.File.Request.{Row}
 use Rattle.scope.specs.File.Line.{Value, val, out, Read, ok, bad, Reader, shapedAs, line, andThen, _>>=_, many}
 use Rattle.scope.specs.Call.Tables.{Entry, table, formEntry, policyEntry, stepEntry}
 use Rattle.scope.specs.File.Kinds.{formKinds, stepKinds, rowIn}
-use Rattle.scope.specs.Limits.{versionAt, principalsAt, atomsAt, formulasAt, formAt, clauseAt, stepAt}
-use Rattle.scope.specs.File.Refusals.{rowRefusal, formRefusal, stepRefusal, versionRefusal, principalsRefusal, atomsRefusal, formulasRefusal}
-use Rattle.scope.specs.File.Text.{versionLine, principalsLine, atomsLine, formulasLine, clauseLine, stepLine}
+use Rattle.scope.specs.Limits.{principalsAt, atomsAt, formulasAt, formAt, clauseAt, stepAt}
+use Rattle.scope.specs.File.Refusals.{rowRefusal, formRefusal, stepRefusal, principalsRefusal, atomsRefusal, formulasRefusal}
+use Rattle.scope.specs.File.Text.{principalsLine, atomsLine, formulasLine, clauseLine, stepLine}
 use Rattle.scope.specs.File.Reader.{formItem, stepItem}
 use Rattle.common.specs.Answers.{answerOf}
 use Rattle.classes.specs.Class.{policyIn}
@@ -183,31 +183,26 @@ module _ (formulas clauses : ℕ) {n : ℕ} {text : List ℕ} {len : ℕ} {numbe
         (ap (λ (y : Pair). set (set numbers (2 * i) (y .kind)) (2 * i + 1) (y .number)) (d ∙ found .stored) ∙
         step-more len numbers (2 * i) (k .before) (found .kind) (found .number) 0 (k .stored) (omega (arith, k .count)) room)
 
--- The first four lines.
+-- The three counts.
 module _ (s : List ℕ) where
-  pub head-at-version : (z : Answer) → line versionLine versionRefusal versionAt s ≡ bad z → headPart s ≡ bad z
+  pub head-at-principals : (z : Answer) → line principalsLine principalsRefusal principalsAt s ≡ bad z → headPart s ≡ bad z
   unfolding headPart _>>=_ andThen
-  head-at-version z a = rw a refl
+  head-at-principals z a = rw a refl
 
-  module _ (v : ℕ) (s₁ : List ℕ) (a : line versionLine versionRefusal versionAt s ≡ ok v s₁) where
-    pub head-at-principals : (z : Answer) → line principalsLine principalsRefusal principalsAt s₁ ≡ bad z → headPart s ≡ bad z
+  module _ (p : ℕ) (s₁ : List ℕ) (a : line principalsLine principalsRefusal principalsAt s ≡ ok p s₁) where
+    pub head-at-atoms : (z : Answer) → line atomsLine atomsRefusal atomsAt s₁ ≡ bad z → headPart s ≡ bad z
     unfolding headPart _>>=_ andThen
-    head-at-principals z b = rw a (rw b refl)
+    head-at-atoms z b = rw a (rw b refl)
 
-    module _ (p : ℕ) (s₂ : List ℕ) (b : line principalsLine principalsRefusal principalsAt s₁ ≡ ok p s₂) where
-      pub head-at-atoms : (z : Answer) → line atomsLine atomsRefusal atomsAt s₂ ≡ bad z → headPart s ≡ bad z
+    module _ (n : ℕ) (s₂ : List ℕ) (b : line atomsLine atomsRefusal atomsAt s₁ ≡ ok n s₂) where
+      pub head-at-formulas : (z : Answer) → line formulasLine formulasRefusal formulasAt s₂ ≡ bad z → headPart s ≡ bad z
       unfolding headPart _>>=_ andThen
-      head-at-atoms z c = rw a (rw b (rw c refl))
+      head-at-formulas z c = rw a (rw b (rw c refl))
 
-      module _ (n : ℕ) (s₃ : List ℕ) (c : line atomsLine atomsRefusal atomsAt s₂ ≡ ok n s₃) where
-        pub head-at-formulas : (z : Answer) → line formulasLine formulasRefusal formulasAt s₃ ≡ bad z → headPart s ≡ bad z
-        unfolding headPart _>>=_ andThen
-        head-at-formulas z d = rw a (rw b (rw c (rw d refl)))
-
-        pub head-whole : (f : ℕ) (s₄ : List ℕ) → line formulasLine formulasRefusal formulasAt s₃ ≡ ok f s₄
-            → headPart s ≡ ok record { principals = p; atoms = n; formulas = f } s₄
-        unfolding headPart _>>=_ andThen
-        head-whole f s₄ d = rw a (rw b (rw c (rw d refl)))
+      pub head-whole : (f : ℕ) (s₃ : List ℕ) → line formulasLine formulasRefusal formulasAt s₂ ≡ ok f s₃
+          → headPart s ≡ ok record { principals = p; atoms = n; formulas = f } s₃
+      unfolding headPart _>>=_ andThen
+      head-whole f s₃ c = rw a (rw b (rw c refl))
 
 module _ (n : ℕ) (r : Read Counted) where
   pub head-refused : (z : Answer) → r ≡ bad z → Part.Refused (answerOf z) ≡ partOf headCounts n r
@@ -215,6 +210,6 @@ module _ (n : ℕ) (r : Read Counted) where
   head-refused z e = rw e refl
 
   pub head-read : (p a f : ℕ) (rest : List ℕ) → r ≡ ok record { principals = p; atoms = a; formulas = f } rest → Part.Read
-      record { principals = p; atoms = a; formulas = f; policy = 0; goal = 0; steps = 0 } (n - length rest) ≡ partOf headCounts n r
+      record { version = 0; logic = 0; principals = p; atoms = a; formulas = f; policy = 0; goal = 0; steps = 0 } (n - length rest) ≡ partOf headCounts n r
   unfolding partOf
   head-read p a f rest e = rw e refl

@@ -1,4 +1,4 @@
-// The first four lines: version, principals, atoms, formulas.
+// The three lines from `principals=` on: principals, atoms, formulas.
 use crate::NumberLine;
 use crate::Part;
 use common::Counts;
@@ -36,43 +36,35 @@ pub(crate) fn read_head(text: &[u8]) -> Part
     ensures { λ r. ⌜ r ≡ partOf headCounts (length (now (text .entry))) (headPart (now (text .entry))) ⌝ }
     ensures { λ r. ⌜ formulaCount r ≤ mostFormulas ⌝ }
 {
-    let version = count_line(text, b"version=", 1, 1);
-    let NumberLine::Number(_) = version else {
-        return Part::Refused(crate::number_refused(
-            version,
-            common::version_at(),
-            text,
-            b"version=",
-        ));
-    };
-    let second = lines::rest_of(text);
-    let principals = count_line(second, b"principals=", 1, common::MOST_PRINCIPALS);
+    let principals = count_line(text, b"principals=", 1, common::MOST_PRINCIPALS);
     let NumberLine::Number(p) = principals else {
         return Part::Refused(crate::number_refused(
             principals,
             common::principals_at(),
-            second,
+            text,
             b"principals=",
         ));
     };
-    let third = lines::rest_of(second);
-    let atoms = count_line(third, b"atoms=", 1, common::MOST_ATOMS);
+    let second = lines::rest_of(text);
+    let atoms = count_line(second, b"atoms=", 1, common::MOST_ATOMS);
     let NumberLine::Number(a) = atoms else {
-        return Part::Refused(crate::number_refused(atoms, common::atoms_at(), third, b"atoms="));
+        return Part::Refused(crate::number_refused(atoms, common::atoms_at(), second, b"atoms="));
     };
-    let fourth = lines::rest_of(third);
-    let formulas = count_line(fourth, b"formulas=", 1, common::MOST_FORMULAS);
+    let third = lines::rest_of(second);
+    let formulas = count_line(third, b"formulas=", 1, common::MOST_FORMULAS);
     let NumberLine::Number(f) = formulas else {
         return Part::Refused(crate::number_refused(
             formulas,
             common::formulas_at(),
-            fourth,
+            third,
             b"formulas=",
         ));
     };
-    let rest = lines::rest_of(fourth);
+    let rest = lines::rest_of(third);
     let at = text.len() - rest.len();
     let counts = Counts {
+        version: 0,
+        logic: 0,
         principals: p,
         atoms: a,
         formulas: f,

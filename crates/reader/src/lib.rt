@@ -2,15 +2,16 @@
 ghost use mathlib.Core.Path.{_≡_};
 ghost use Prim.Native.Nat.{_*_, _≤_};
 ghost use lib.ListN.{length, replicate};
-ghost use Rattle.scope.specs.Limits.{mostFormulas, mostPolicyLines, mostSteps};
+ghost use Rattle.scope.specs.Limits.{mostBytes, mostFormulas, mostPolicyLines, mostSteps};
 ghost use Rattle.scope.specs.File.Request.{Request};
 ghost use Rattle.scope.specs.File.Reader.{read, readRequest};
 ghost use Rattle.scope.specs.Call.Tables.{table, formEntry, policyEntry, stepEntry};
 ghost use Rattle.scope.specs.Call.Calls.{reading, formTableAfter, policyTableAfter, stepTableAfter};
-ghost use Rattle.scope.specs.File.Text.{formLine, stepLine};
+ghost use Rattle.scope.specs.File.Text.{logicLine, formLine, stepLine};
 ghost use Rattle.columns.specs.Shapes.{numberWith};
 ghost use Rattle.common.specs.Answers.{answerOf};
-ghost use Rattle.reader.specs.Answers.{refusedAt, numberRefusal, rowRefused, stepRefused, sectionRefused, partRefused, readingOf};
+ghost use Rattle.reader.specs.Answers.{refusedAt, numberRefusal, rowRefused, stepRefused, sectionRefused, partRefused, startRefused, readingOf, toldWith, placeOf};
+ghost use Rattle.reader.specs.Whole.{bodyRequest};
 use common::Answer;
 use common::Counts;
 use steps::Step;
@@ -20,6 +21,7 @@ mod form_lines;
 mod line_columns;
 mod policy_lines;
 mod step_lines;
+mod version_lines;
 
 pub enum Reading {
     Read(Counts),
@@ -50,7 +52,13 @@ enum Section {
     Refused(Answer),
 }
 
-// A part of the file: the counts up to its end, 0 where they come later, and the bytes that it takes; or the first refusal.
+// The version and the logic that the first lines tell, and the bytes that they take; or the first refusal.
+enum Start {
+    Read(u16, u16, usize),
+    Refused(Answer),
+}
+
+// A part of the file: the counts up to its end, 0 where they come later, version and logic among them, and the bytes that it takes; or the first refusal.
 enum Part {
     Read(Counts, usize),
     Refused(Answer),
@@ -110,6 +118,23 @@ fn step_refused(line: StepLine, place: u32, text: &[u8]) -> Answer
     }
 }
 
+fn logic_refused(line: NumberLine, place: u32, text: &[u8]) -> Answer
+    ensures { λ r. ⌜ r ≡ answerOf (refusedAt logicLine (numberRefusal line) place (now (text .entry))) ⌝ }
+{
+    match line {
+        NumberLine::Number(_) => Answer {
+            refusal: 0,
+            place,
+            column: 0,
+        },
+        NumberLine::Refused(number) => Answer {
+            refusal: number,
+            place,
+            column: line_columns::logic_column(number, text),
+        },
+    }
+}
+
 fn section_refused(section: Section) -> Answer
     ensures { λ r. ⌜ r ≡ sectionRefused section ⌝ }
 {
@@ -136,6 +161,19 @@ fn part_refused(part: Part) -> Answer
     }
 }
 
+fn start_refused(start: Start) -> Answer
+    ensures { λ r. ⌜ r ≡ startRefused start ⌝ }
+{
+    match start {
+        Start::Read(_, _, _) => Answer {
+            refusal: 0,
+            place: 0,
+            column: 0,
+        },
+        Start::Refused(answer) => answer,
+    }
+}
+
 fn zero_table(numbers: &mut [u16])
     ensures { λ r. ⌜ now (numbers .exit) ≡ replicate (length (now (numbers .entry))) 0 ⌝ }
 {
@@ -146,13 +184,13 @@ fn zero_table(numbers: &mut [u16])
     }
 }
 
-// The lines in order, then 6. The tables are zero and have room.
-fn read_parts(text: &[u8], forms: &mut [u16], policy: &mut [u16], steps: &mut [u16]) -> Reading
+// The lines from `principals=` on, as version 1 counts them, then 6. The tables are zero and have room.
+fn read_body(text: &[u8], forms: &mut [u16], policy: &mut [u16], steps: &mut [u16]) -> Reading
     requires { ⌜ (3 * mostFormulas ≤ length (now forms)) × (now forms ≡ replicate (length (now forms)) 0) × (mostPolicyLines ≤ length (now policy)) × (now policy ≡ replicate (length (now policy)) 0) × (2 * mostSteps ≤ length (now steps)) × (now steps ≡ replicate (length (now steps)) 0) ⌝ }
-    ensures { λ r. ⌜ r ≡ readingOf (readRequest (now (text .entry))) ⌝ }
-    ensures { λ r. ⌜ ((q : Request) → readRequest (now (text .entry)) ≡ read q → now (forms .exit) ≡ table formEntry (length (now (forms .entry))) (q .forms)) ⌝ }
-    ensures { λ r. ⌜ ((q : Request) → readRequest (now (text .entry)) ≡ read q → now (policy .exit) ≡ table policyEntry (length (now (policy .entry))) (q .policy)) ⌝ }
-    ensures { λ r. ⌜ ((q : Request) → readRequest (now (text .entry)) ≡ read q → now (steps .exit) ≡ table stepEntry (length (now (steps .entry))) (q .steps)) ⌝ }
+    ensures { λ r. ⌜ r ≡ readingOf (bodyRequest (now (text .entry))) ⌝ }
+    ensures { λ r. ⌜ ((q : Request) → bodyRequest (now (text .entry)) ≡ read q → now (forms .exit) ≡ table formEntry (length (now (forms .entry))) (q .forms)) ⌝ }
+    ensures { λ r. ⌜ ((q : Request) → bodyRequest (now (text .entry)) ≡ read q → now (policy .exit) ≡ table policyEntry (length (now (policy .entry))) (q .policy)) ⌝ }
+    ensures { λ r. ⌜ ((q : Request) → bodyRequest (now (text .entry)) ≡ read q → now (steps .exit) ≡ table stepEntry (length (now (steps .entry))) (q .steps)) ⌝ }
 {
     let first = form_lines::read_formulas(text, forms);
     let Part::Read(formulas, at) = first else {
@@ -177,6 +215,50 @@ fn read_parts(text: &[u8], forms: &mut [u16], policy: &mut [u16], steps: &mut [u
         });
     }
     Reading::Read(counts)
+}
+
+// The refusal of a line or the counts of a body, told with the version and the logic before them.
+fn told_with(body: Reading, version: u16, logic: u16) -> Reading
+    requires { ⌜ placeOf body ≤ 70000 ⌝ }
+    ensures { λ r. ⌜ r ≡ toldWith version logic body ⌝ }
+{
+    match body {
+        Reading::Read(counts) => Reading::Read(Counts {
+            version,
+            logic,
+            principals: counts.principals,
+            atoms: counts.atoms,
+            formulas: counts.formulas,
+            policy: counts.policy,
+            goal: counts.goal,
+            steps: counts.steps,
+        }),
+        Reading::Refused(answer) => {
+            let extra = common::extra_lines(version);
+            Reading::Refused(Answer {
+                refusal: answer.refusal,
+                place: answer.place + extra,
+                column: answer.column,
+            })
+        }
+    }
+}
+
+// The lines in order, then 6. The tables are zero and have room.
+fn read_parts(text: &[u8], forms: &mut [u16], policy: &mut [u16], steps: &mut [u16]) -> Reading
+    requires { ⌜ (length (now text) ≤ mostBytes) × (3 * mostFormulas ≤ length (now forms)) × (now forms ≡ replicate (length (now forms)) 0) × (mostPolicyLines ≤ length (now policy)) × (now policy ≡ replicate (length (now policy)) 0) × (2 * mostSteps ≤ length (now steps)) × (now steps ≡ replicate (length (now steps)) 0) ⌝ }
+    ensures { λ r. ⌜ r ≡ readingOf (readRequest (now (text .entry))) ⌝ }
+    ensures { λ r. ⌜ ((q : Request) → readRequest (now (text .entry)) ≡ read q → now (forms .exit) ≡ table formEntry (length (now (forms .entry))) (q .forms)) ⌝ }
+    ensures { λ r. ⌜ ((q : Request) → readRequest (now (text .entry)) ≡ read q → now (policy .exit) ≡ table policyEntry (length (now (policy .entry))) (q .policy)) ⌝ }
+    ensures { λ r. ⌜ ((q : Request) → readRequest (now (text .entry)) ≡ read q → now (steps .exit) ≡ table stepEntry (length (now (steps .entry))) (q .steps)) ⌝ }
+{
+    let start = version_lines::read_start(text);
+    let Start::Read(version, logic, at) = start else {
+        return Reading::Refused(start_refused(start));
+    };
+    let rest = &text[at..];
+    let body = read_body(rest, forms, policy, steps);
+    told_with(body, version, logic)
 }
 
 // The request in a file of at most 65,536 bytes. Every lent table is zero past what was read, and all zero after a refusal.

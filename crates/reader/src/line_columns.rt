@@ -4,7 +4,7 @@ ghost use Prim.Native.Nat.{suc, _≤_};
 ghost use lib.ListN.{length};
 ghost use Rattle.scope.specs.Call.Answer.{columnFor};
 ghost use Rattle.scope.specs.File.Line.{lineStop};
-ghost use Rattle.scope.specs.File.Text.{formLine, stepLine};
+ghost use Rattle.scope.specs.File.Text.{logicLine, formLine, stepLine};
 ghost use Rattle.columns.specs.Shapes.{numberWith};
 
 // No key is longer than `principals=`.
@@ -16,6 +16,17 @@ pub(crate) fn number_column(number: u16, text: &[u8], key: &[u8]) -> u16
         return 0;
     }
     let stop = columns::number_line(text, key);
+    let column = stop + 1;
+    column as u16
+}
+
+pub(crate) fn logic_column(number: u16, text: &[u8]) -> u16
+    ensures { λ r. ⌜ r ≡ columnFor number (suc (lineStop logicLine (now (text .entry)))) ⌝ }
+{
+    if number != 2 {
+        return 0;
+    }
+    let stop = columns::logic_line(text);
     let column = stop + 1;
     column as u16
 }

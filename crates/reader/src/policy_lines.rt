@@ -119,6 +119,8 @@ pub(crate) fn read_policy(text: &[u8], counts: Counts, forms: &[u16], policy: &m
     let rest = lines::rest_of(third);
     let taken = text.len() - rest.len();
     let all = Counts {
+        version: counts.version,
+        logic: counts.logic,
         principals: counts.principals,
         atoms: counts.atoms,
         formulas: counts.formulas,

@@ -83,6 +83,8 @@ pub(crate) fn read_proof(text: &[u8], counts: Counts, steps: &mut [u16]) -> Part
     let before = text.len() - rest.len();
     let taken = before + at;
     let all = Counts {
+        version: counts.version,
+        logic: counts.logic,
         principals: counts.principals,
         atoms: counts.atoms,
         formulas: counts.formulas,

@@ -1,5 +1,7 @@
 -- 'What the numbers count': the table of what is allowed; and the lines of the file, counted from 1.
 use Prim.Native.Nat.{ℕ, _+_}
+use mathlib.Core.Bool.{Bool, cond}
+use lib.Dec.{eqb}
 
 abbrev pub mostBytes : ℕ
 mostBytes = 65536
@@ -18,6 +20,10 @@ mostPolicyLines = 128
 
 abbrev pub mostSteps : ℕ
 mostSteps = 2048
+
+-- l) '3 at line 1 for a version above 2 or equal to 0'
+abbrev pub mostVersion : ℕ
+mostVersion = 2
 
 -- worlds of a sequent, root included
 abbrev pub mostWorlds : ℕ
@@ -41,9 +47,19 @@ mostStepNumber = 65535
 
 -- The file has, in this order: version, principals, atoms, formulas and that many form lines, clauses and that many clause lines,
 -- goal, steps and that many step lines. Formulas and policy lines count from 0, steps from 1. All but the first are told from the line
--- of `principals=`.
+-- of `principals=`, as version 1 counts them.
 abbrev pub versionAt : ℕ
 versionAt = 1
+
+-- l) '`version=2` with a second line `logic=plain` or `logic=unit`': 'line numbers in version 2 are one higher', those from `principals=` on.
+abbrev pub hasLogic : ℕ → Bool
+hasLogic version = eqb version 2
+
+abbrev pub logicAt : ℕ
+logicAt = 2
+
+abbrev pub extraLines : ℕ → ℕ
+extraLines version = cond (hasLogic version) 1 0
 
 abbrev pub principalsAt : ℕ
 principalsAt = 2

@@ -4,3 +4,4 @@ pub mod Guards
 pub mod Columns
 pub mod Bounds
 pub mod Lent
+pub mod Versions

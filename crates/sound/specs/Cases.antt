@@ -1,5 +1,5 @@
 -- Document 01's cases P2, P5 and P7 are refused for good: their policies do not entail their goals, so no steps at all are a derivation.
--- Each model is computed to meet Definition 1's conditions and to refute. P5 and P7 leave the count of principals open: any allowed one.
+-- Each model is computed to meet Definition 1's conditions and to refute; those of P2 and P7 meet unit's too. P5 and P7 leave the count of principals open: any allowed one.
 -- `for-good` says it of the cases' own texts.
 use Prim.Native.Nat.{ℕ, _-_, _<_, _≤_}
 use mathlib.Core.Path.{_≡_, refl}
@@ -9,6 +9,7 @@ use native.Mathlib.Omega.{arith}
 use lib.Dec.{eqb}
 use lib.ListN.{getD}
 use Rattle.scope.specs.Logic.Form.{Form, atom, imp, says, sf, both, either, negate}
+use Rattle.scope.specs.Logic.Facts.{Logic, plain, unit}
 use Rattle.scope.specs.File.Bytes.{bytes}
 use Rattle.scope.specs.File.Request.{Request}
 use Rattle.scope.specs.File.Reader.{read, readRequest}
@@ -21,7 +22,7 @@ use Rattle.scope.specs.Logic.Derivation.{Derivation}
 use Rattle.scope.specs.Logic.Models.{Model}
 use Rattle.sound.specs.Over.{Over}
 use Rattle.sound.specs.Tests.{implies, every, alltrue}
-use Rattle.sound.specs.Computed.{frame, eval, evalAll}
+use Rattle.sound.specs.Computed.{frame, lawful, eval, evalAll}
 use Rattle.sound.specs.Refuted.{refutes, underived}
 
 -- P2: P1 with `form=sf 0 1`. The policy is (0 says p0) imp p0, 0 sf 1 and 1 says p0, the goal p0.
@@ -69,47 +70,49 @@ model7 =
       speaks = λ a b x. eqb a b;
     }
 
-computed2 : refutes 2 1 model2 0 policy2 (atom 0) ≡ true
-unfolding refutes frame eval evalAll alltrue implies every both either negate model2
-computed2 = refl
+computed2 : (l : Logic) → refutes l 2 1 model2 0 policy2 (atom 0) ≡ true
+unfolding refutes frame lawful eval evalAll alltrue implies every both either negate model2
+computed2 plain = refl
+computed2 unit = refl
 
-computed5 : refutes mostPrincipals 1 model5 0 policy5 (says 0 (atom 0)) ≡ true
-unfolding refutes frame eval evalAll alltrue implies every both negate model5
+computed5 : refutes plain mostPrincipals 1 model5 0 policy5 (says 0 (atom 0)) ≡ true
+unfolding refutes frame lawful eval evalAll alltrue implies every both negate model5
 computed5 = refl
 
-computed7 : refutes mostPrincipals 1 model7 0 policy7 (says 0 (atom 0)) ≡ true
-unfolding refutes frame eval evalAll alltrue implies every both negate model7
-computed7 = refl
+computed7 : (l : Logic) → refutes l mostPrincipals 1 model7 0 policy7 (says 0 (atom 0)) ≡ true
+unfolding refutes frame lawful eval evalAll alltrue implies every both negate model7
+computed7 plain = refl
+computed7 unit = refl
 
 module _ (room : ℕ → List Obligation → Bool) (xs : List Step) where
-  pub underived2 : Derivation room (start 2 policy2 (atom 0)) xs → ⊥
+  pub underived2 : (l : Logic) → Derivation room (start l 2 policy2 (atom 0)) xs → ⊥
   unfolding Over
-  underived2 =
-      underived room 2 1 policy2 (atom 0) xs
+  underived2 l =
+      underived room l 2 1 policy2 (atom 0) xs
       (((omega arith, omega arith), omega arith), ((omega arith, omega arith), ((omega arith, omega arith), tt)))
       (omega arith)
       2
       (omega arith)
       model2
       0
-      computed2
+      (computed2 l)
 
-  pub underived5 : (k : ℕ) → 0 < k → k ≤ mostPrincipals → Derivation room (start k policy5 (says 0 (atom 0))) xs → ⊥
+  pub underived5 : (k : ℕ) → 0 < k → k ≤ mostPrincipals → Derivation room (start plain k policy5 (says 0 (atom 0))) xs → ⊥
   unfolding Over
   underived5 k i up =
-      underived room k 1 policy5 (says 0 (atom 0)) xs (omega arith, tt) (i, omega arith) mostPrincipals up model5 0 computed5
+      underived room plain k 1 policy5 (says 0 (atom 0)) xs (omega arith, tt) (i, omega arith) mostPrincipals up model5 0 computed5
 
-  pub underived7 : (k : ℕ) → 1 < k → k ≤ mostPrincipals → Derivation room (start k policy7 (says 0 (atom 0))) xs → ⊥
+  pub underived7 : (l : Logic) (k : ℕ) → 1 < k → k ≤ mostPrincipals → Derivation room (start l k policy7 (says 0 (atom 0))) xs → ⊥
   unfolding Over
-  underived7 k i up =
-      underived room k 1 policy7 (says 0 (atom 0)) xs
+  underived7 l k i up =
+      underived room l k 1 policy7 (says 0 (atom 0)) xs
       ((i, (omega arith, omega arith)), tt)
       (omega arith, omega arith)
       mostPrincipals
       up
       model7
       0
-      computed7
+      (computed7 l)
 
 -- A text reads to a request, and no steps derive that request's goal, whatever the limits.
 pub record ForGood (c : Case) : Type 0 where
@@ -127,7 +130,7 @@ requestIn-case i = requestIn (readRequest (bytes (caseOf i .text)))
 -- What each text says: it reads, and its policy and goal are those above.
 record Reads-to (i k : ℕ) (policy : List Form) (goal : Form) : Type 0 where
   reads : readRequest (bytes (caseOf i .text)) ≡ read (requestIn-case i)
-  says-so : startOf (requestIn-case i) ≡ start k policy goal
+  says-so : startOf (requestIn-case i) ≡ start plain k policy goal
 
 text2 : Reads-to 2 2 policy2 (atom 0)
 unfolding readRequest twelve requestIn requestIn-case startOf start
@@ -142,7 +145,7 @@ unfolding readRequest twelve requestIn requestIn-case startOf start
 text7 = record { reads = refl; says-so = refl }
 
 good : (i k : ℕ) (policy : List Form) (goal : Form) → Reads-to i k policy goal →
-    ((room : ℕ → List Obligation → Bool) (xs : List Step) → Derivation room (start k policy goal) xs → ⊥) → ForGood (caseOf i)
+    ((room : ℕ → List Obligation → Bool) (xs : List Step) → Derivation room (start plain k policy goal) xs → ⊥) → ForGood (caseOf i)
 good i k policy goal t h =
     record {
       request = requestIn-case i;
@@ -152,7 +155,7 @@ good i k policy goal t h =
 
 pub for-good : ForGood (caseOf 2) × ForGood (caseOf 5) × ForGood (caseOf 7)
 for-good = (
-  good 2 2 policy2 (atom 0) text2 underived2,
+  good 2 2 policy2 (atom 0) text2 (λ room xs. underived2 room xs plain),
   good 5 1 policy5 (says 0 (atom 0)) text5 (λ room xs. underived5 room xs 1 (omega arith) (omega arith)),
-  good 7 2 policy7 (says 0 (atom 0)) text7 (λ room xs. underived7 room xs 2 (omega arith) (omega arith)),
+  good 7 2 policy7 (says 0 (atom 0)) text7 (λ room xs. underived7 room xs plain 2 (omega arith) (omega arith)),
 )

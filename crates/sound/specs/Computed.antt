@@ -7,8 +7,9 @@ use mathlib.Core.List.{List, [], _∷_}
 use mathlib.Core.Logic.{_↔_, ⊎-map}
 use Rattle.scope.specs.Logic.Form as F
 use Rattle.scope.specs.Logic.Form.{Form, both, either}
+use Rattle.scope.specs.Logic.Facts.{Logic, plain, unit}
 use Rattle.scope.specs.Logic.Models as M
-use Rattle.scope.specs.Logic.Models.{Model, Future, Frame, Sat, SatAll}
+use Rattle.scope.specs.Logic.Models.{Model, Future, Frame, Within, Sat, SatAll}
 use Rattle.sound.specs.Tests.{implies, every, alltrue, each-true}
 use Rattle.scope.specs.Tools.Tests.{never, both-true, both-met}
 use Rattle.sound.specs.Tests.{either-true, true-either, implies-so, so-implies, every-at, at-every}
@@ -104,6 +105,17 @@ module _ (k n : ℕ) (m : Model) where
             e)
             t i e;
       }
+
+-- What a logic asks beside the frame conditions: with unit, x S_A y gives x ≤ y.
+unfoldable pub lawful : Logic → ℕ → Model → Bool
+unfolding every pairs implies
+lawful plain k m = true
+lawful unit k m = every k λ a. pairs m λ x y. implies (m .acc a x y) (m .le x y)
+
+pub lawful-ok : (l : Logic) (k : ℕ) (m : Model) → lawful l k m ≡ true → l ≡ unit → Within k m
+unfolding lawful
+lawful-ok plain k m e d = never cc
+lawful-ok unit k m e d = λ a x y c i j f. implies-so _ _ (pair-at m _ (every-at k _ e a c) x y i j) f
 
 -- The truth of a formula at a world. The tests in it stay shut for the laws below.
 unfoldable pub eval : Model → ℕ → Form → Bool

@@ -1,4 +1,4 @@
--- What facts, sequents and obligations mean in a model of Definition 1: ρ takes each world of a sequent to a world of the model, and
+-- What facts, sequents and obligations mean in a model of a logic: ρ takes each world of a sequent to a world of the model, and
 -- respects the sequent if its facts and clauses hold there; an obligation is valid if its goal is met wherever its sequent is respected.
 use Prim.Native.Nat.{ℕ, suc, _<_}
 use mathlib.Core.Path.{_≡_, refl}
@@ -9,9 +9,9 @@ use lib.Dec.{eqb}
 use borrow.Author.Tests.{eq-eqb, ne-eqb}
 use Rattle.scope.specs.Logic.Form as F
 use Rattle.scope.specs.Logic.Form.{Form}
-use Rattle.scope.specs.Logic.Facts.{Fact, le, by, sf}
+use Rattle.scope.specs.Logic.Facts.{Fact, le, by, sf, unit}
 use Rattle.scope.specs.Logic.Obligation.{Lab, lab, Sequent, withWorld, withFact, withClause, Phase, goal, chunks, focus, behind, Obligation, ob}
-use Rattle.scope.specs.Logic.Models.{Model, Sat}
+use Rattle.scope.specs.Logic.Models.{Model, Within, Sat}
 use Rattle.sound.specs.Over.{Over, All, all-turn, all-append}
 
 -- ρ with the world v in the place w
@@ -55,9 +55,10 @@ module _ (k n : ℕ) (m : Model) where
   abbrev pub Meets : (ℕ → ℕ) → Lab → Type 0
   Meets ρ l = Sat m (ρ (l .at)) (l .form)
 
-  -- ρ respects a sequent: its facts and its clauses hold.
+  -- ρ respects a sequent: its facts and its clauses hold, and with unit the model meets the condition.
   pub record Respects (s : Sequent) (ρ : ℕ → ℕ) : Type 0 where
     pub counted : s .sheet .principals ≡ k
+    pub within : s .sheet .logic ≡ unit → Within k m
     pub inside : (x : ℕ) → ρ x < m .worlds
     pub facts : All (HoldsAt (s .sheet .worlds) ρ) (s .facts)
     pub clauses : All (λ (l : Lab). AtWorlds (s .sheet .worlds) l × Meets ρ l) (s .clauses)
@@ -96,6 +97,7 @@ module _ (k n : ℕ) (m : Model) where
   with-world s ρ v f r i h =
       record {
         counted = r .counted;
+        within = r .within;
         inside = put-inside (m .worlds) ρ (s .sheet .worlds) v (r .inside) i;
         facts =
             (h, all-turn (HoldsAt (s .sheet .worlds) ρ) (HoldsAt (suc (s .sheet .worlds)) (put ρ (s .sheet .worlds) v)) (older-fact (s .sheet .worlds) ρ v) (s .facts) (r .facts));
@@ -107,12 +109,13 @@ module _ (k n : ℕ) (m : Model) where
       }
 
   pub with-fact : (s : Sequent) (ρ : ℕ → ℕ) (f : Fact) → Respects s ρ → HoldsAt (s .sheet .worlds) ρ f → Respects (withFact s f) ρ
-  with-fact s ρ f r h = record { counted = r .counted; inside = r .inside; facts = (h, r .facts); clauses = r .clauses }
+  with-fact s ρ f r h = record { counted = r .counted; within = r .within; inside = r .inside; facts = (h, r .facts); clauses = r .clauses }
 
   pub with-clause : (s : Sequent) (ρ : ℕ → ℕ) (l : Lab) → Respects s ρ → AtWorlds (s .sheet .worlds) l → Meets ρ l → Respects (withClause s l) ρ
   with-clause s ρ l r i h =
       record {
         counted = r .counted;
+        within = r .within;
         inside = r .inside;
         facts = r .facts;
         clauses = all-append (λ l. AtWorlds (s .sheet .worlds) l × Meets ρ l) (s .clauses) (l ∷ []) (r .clauses) ((i, h), tt);

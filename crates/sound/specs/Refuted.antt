@@ -8,29 +8,30 @@ use native.Mathlib.Omega.{arith}
 use lib.Dec.{ltb}
 use borrow.Author.Tests.{ltb-true}
 use Rattle.scope.specs.Tools.Tests.{never, both-true}
+use Rattle.scope.specs.Logic.Facts.{Logic}
 use Rattle.scope.specs.Logic.Form as F
 use Rattle.scope.specs.Logic.Form.{Form, both, negate}
 use Rattle.scope.specs.Logic.Obligation.{Obligation, Step, start}
 use Rattle.scope.specs.Logic.Derivation.{Derivation}
 use Rattle.scope.specs.Logic.Models as M
-use Rattle.scope.specs.Logic.Models.{Model, Future, Frame, Sat, SatAll, Entailed}
+use Rattle.scope.specs.Logic.Models.{Model, Future, Frame, ModelOf, Sat, SatAll, Entailed}
 use Rattle.sound.specs.Over.{Over, All}
 use Rattle.sound.specs.Sound.{refuted}
 use Rattle.sound.specs.Tests.{alltrue, each-true}
-use Rattle.sound.specs.Computed.{frame, frame-ok, eval, eval-false, evalAll, evalAll-true}
+use Rattle.sound.specs.Computed.{frame, frame-ok, lawful, lawful-ok, eval, eval-false, evalAll, evalAll-true}
 
--- The frame conditions hold, and the model has a world x where the policy is true and the goal is not.
-unfoldable pub refutes : ℕ → ℕ → Model → ℕ → List Form → Form → Bool
-refutes k n m x policy goal =
-    alltrue (frame k n m ∷ ltb x (m .worlds) ∷ evalAll m x policy ∷ negate (eval m x goal) ∷ [])
+-- The conditions of the logic hold, and the model has a world x where the policy is true and the goal is not.
+unfoldable pub refutes : Logic → ℕ → ℕ → Model → ℕ → List Form → Form → Bool
+refutes l k n m x policy goal =
+    alltrue (frame k n m ∷ lawful l k m ∷ ltb x (m .worlds) ∷ evalAll m x policy ∷ negate (eval m x goal) ∷ [])
 
 pub negate-true : (b : Bool) → negate b ≡ true → b ≡ false
 unfolding negate
 negate-true true e = never cc
 negate-true false e = refl
 
--- A frame over more principals is one over fewer.
-module _ (m : Model) (k more n : ℕ) (up : k ≤ more) where
+-- A model over more principals is one over fewer.
+module _ (m : Model) (l : Logic) (k more n : ℕ) (up : k ≤ more) where
   future-more : {x y : ℕ} → Future m k x y → Future m more x y
   future-more M.same = M.same
   future-more (M.by-le i e t) = M.by-le i e (future-more t)
@@ -50,39 +51,42 @@ module _ (m : Model) (k more n : ℕ) (up : k ≤ more) where
         mon-sf = λ a b x y c d i j t. fr .mon-sf a b x y (omega arith) (omega arith) i j (future-more t);
       }
 
--- What a model that refutes meets: the frame conditions, and at the world x the policy, and not the goal.
-pub record Refuting (k n : ℕ) (m : Model) (x : ℕ) (policy : List Form) (goal : Form) : Type 0 where
-  pub meets : Frame k n m
+  model-fewer : ModelOf l more n m → ModelOf l k n m
+  model-fewer of = record { frame = frame-fewer (of .frame); within = λ e a x y c. of .within e a x y (omega arith) }
+
+-- What a model that refutes meets: the conditions of the logic, and at the world x the policy, and not the goal.
+pub record Refuting (l : Logic) (k n : ℕ) (m : Model) (x : ℕ) (policy : List Form) (goal : Form) : Type 0 where
+  pub meets : ModelOf l k n m
   pub inside : x < m .worlds
   pub holds : SatAll m x policy
   pub fails : Sat m x goal → ⊥
 
-pub refuting : (k n : ℕ) (m : Model) (x : ℕ) (policy : List Form) (goal : Form) → refutes k n m x policy goal ≡ true →
-    Refuting k n m x policy goal
+pub refuting : (l : Logic) (k n : ℕ) (m : Model) (x : ℕ) (policy : List Form) (goal : Form) → refutes l k n m x policy goal ≡ true →
+    Refuting l k n m x policy goal
 unfolding refutes
-refuting k n m x policy goal e =
-    let h = each-true (frame k n m ∷ ltb x (m .worlds) ∷ evalAll m x policy ∷ negate (eval m x goal) ∷ []) e in
+refuting l k n m x policy goal e =
+    let h = each-true (frame k n m ∷ lawful l k m ∷ ltb x (m .worlds) ∷ evalAll m x policy ∷ negate (eval m x goal) ∷ []) e in
     record {
-      meets = frame-ok k n m (h .0);
-      inside = ltb-true x (m .worlds) (h .1 .0);
-      holds = evalAll-true m x policy (h .1 .1 .0);
-      fails = eval-false m x goal (negate-true (eval m x goal) (h .1 .1 .1 .0));
+      meets = record { frame = frame-ok k n m (h .0); within = lawful-ok l k m (h .1 .0) };
+      inside = ltb-true x (m .worlds) (h .1 .1 .0);
+      holds = evalAll-true m x policy (h .1 .1 .1 .0);
+      fails = eval-false m x goal (negate-true (eval m x goal) (h .1 .1 .1 .1 .0));
     }
 
-pub unentailed : (k n : ℕ) (m : Model) (x : ℕ) (policy : List Form) (goal : Form) → refutes k n m x policy goal ≡ true →
-    Entailed k n policy goal → ⊥
+pub unentailed : (l : Logic) (k n : ℕ) (m : Model) (x : ℕ) (policy : List Form) (goal : Form) → refutes l k n m x policy goal ≡ true →
+    Entailed l k n policy goal → ⊥
 unfolding Entailed
-unentailed k n m x policy goal e t =
-    let r = refuting k n m x policy goal e in
+unentailed l k n m x policy goal e t =
+    let r = refuting l k n m x policy goal e in
     r .fails (t m (r .meets) x (r .inside) (r .holds))
 
-module _ (room : ℕ → List Obligation → Bool) (k n : ℕ) (policy : List Form) (goal : Form) (xs : List Step) where
+module _ (room : ℕ → List Obligation → Bool) (l : Logic) (k n : ℕ) (policy : List Form) (goal : Form) (xs : List Step) where
   pub underived : All (Over k n) policy → Over k n goal → (more : ℕ) → k ≤ more →
-      (m : Model) (x : ℕ) → refutes more n m x policy goal ≡ true →
-      Derivation room (start k policy goal) xs → ⊥
+      (m : Model) (x : ℕ) → refutes l more n m x policy goal ≡ true →
+      Derivation room (start l k policy goal) xs → ⊥
   underived o g more up m x e d =
-      let r = refuting more n m x policy goal e in
-      refuted room k n policy goal xs o g m (frame-fewer m k more n up (r .meets)) x (r .inside) (r .holds) (r .fails) d
+      let r = refuting l more n m x policy goal e in
+      refuted room l k n policy goal xs o g m (model-fewer m l k more n up (r .meets)) x (r .inside) (r .holds) (r .fails) d
 
 -- The numbers of a formula, and of several, computed.
 unfoldable pub over : ℕ → ℕ → Form → Bool

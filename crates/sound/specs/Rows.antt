@@ -63,10 +63,10 @@ module _ (k n : ℕ) where
 
 -- The theorem for a request's tables: the policy lines and the goal are formula numbers.
 pub request-sound : (room : ℕ → List Obligation → Bool) (q : Request) (xs : List Step) → All (RowOk (q .principals) (q .atoms)) (q .forms) →
-    Derivation room (start (q .principals) (map (formula (q .forms)) (q .policy)) (formula (q .forms) (q .goal))) xs →
-    Entailed (q .principals) (q .atoms) (map (formula (q .forms)) (q .policy)) (formula (q .forms) (q .goal))
+    Derivation room (start (q .logic) (q .principals) (map (formula (q .forms)) (q .policy)) (formula (q .forms) (q .goal))) xs →
+    Entailed (q .logic) (q .principals) (q .atoms) (map (formula (q .forms)) (q .policy)) (formula (q .forms) (q .goal))
 request-sound room q xs o d =
-    sound room (q .principals) (q .atoms) (map (formula (q .forms)) (q .policy)) (formula (q .forms) (q .goal)) xs
+    sound room (q .logic) (q .principals) (q .atoms) (map (formula (q .forms)) (q .policy)) (formula (q .forms) (q .goal)) xs
     (lines-over (q .principals) (q .atoms) (q .forms) o (q .policy))
     (rows-over (q .principals) (q .atoms) (q .forms) o (q .goal))
     d

@@ -39,7 +39,7 @@ module _ (k n : ℕ) (m : Model) (fr : Frame k n m) where
   mono (F.says a f) o x y i j e h = λ z l d. h z l (fr .mon-S a x y z (o .0) i j l e d)
   mono (F.sf a b) o x y i j e h = fr .mon-sf a b x y (o .0) (o .1) i j (M.by-le j e M.same) h
 
-  -- The facts that hold are closed under the nine rules.
+  -- The facts that hold are closed under the rules, with unit under the tenth too: what S_A reaches is above, and so is what stands above that.
   rules-hold : (s : Sequent) (ρ : ℕ → ℕ) → Respects k n m s ρ → Rules (s .sheet) (HoldsAt k n m (s .sheet .worlds) ρ)
   rules-hold s ρ r =
       record {
@@ -75,6 +75,11 @@ module _ (k n : ℕ) (m : Model) (fr : Frame k n m) where
             let e = fr .mon-S a (b′ .mid) (ρ v) (c .mid) (t .0) (b′ .inside) (r .inside v) (c .inside) (b′ .below) (c .step) in
             let f = fr .I a b (ρ u) (b′ .mid) (c .mid) (t .0) (h .0) (r .inside u) (b′ .inside) (c .inside) (b′ .step) e in
             (t .0, h .1, t .2, again c f);
+        rule10 =
+            λ u v a e h.
+            let c = h .3 in
+            let l = r .within e a (ρ u) (c .mid) (h .0) (r .inside u) (c .inside) (c .step) in
+            (h .1, h .2, fr .trans-le (ρ u) (c .mid) (ρ v) (r .inside u) (c .inside) (r .inside v) l (c .below));
       }
 
   facts-hold : (s : Sequent) (ρ : ℕ → ℕ) (f : Fact) → Respects k n m s ρ → Has s f → HoldsAt k n m (s .sheet .worlds) ρ f

@@ -3,9 +3,10 @@ use Prim.Native.Nat.{ℕ}
 use mathlib.Core.Bool.{Bool}
 use lib.Dec.{eqb}
 use Rattle.scope.specs.Logic.Form.{both, either, negate}
+use Rattle.scope.specs.Logic.Facts.{unit}
 use Rattle.scope.specs.Logic.Models.{Model}
 use Rattle.sound.specs.Tests.{implies, every}
-use Rattle.sound.specs.Computed.{worlds, pairs, triples}
+use Rattle.sound.specs.Computed.{worlds, pairs, triples, lawful}
 
 -- A condition on models over k principals and n atoms, as a test.
 abbrev pub Condition : Type 0
@@ -44,9 +45,9 @@ module _ (k n : ℕ) (m : Model) where
   unfoldable pub accSymmetric : Bool
   accSymmetric = every k λ a. pairs m λ x y. implies (m .acc a x y) (m .acc a y x)
 
-  -- x S_A y gives x ≤ y
+  -- x S_A y gives x ≤ y, as unit asks
   unfoldable pub accWithinLe : Bool
-  accWithinLe = every k λ a. pairs m λ x y. implies (m .acc a x y) (m .le x y)
+  accWithinLe = lawful unit k m
 
   -- x ≤ y gives x S_A y
   unfoldable pub leWithinAcc : Bool

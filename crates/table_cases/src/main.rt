@@ -9,6 +9,8 @@ use lent::Edit;
 // The counts of P1, lines 2 to 4, 10, 14 and 15 of its text.
 fn p1() -> Counts {
     Counts {
+        version: 1,
+        logic: 0,
         principals: 2,
         atoms: 1,
         formulas: 5,
@@ -21,6 +23,8 @@ fn p1() -> Counts {
 fn head(principals: u16, atoms: u16, formulas: u16) -> Counts {
     let counts = p1();
     Counts {
+        version: counts.version,
+        logic: counts.logic,
         principals: principals,
         atoms: atoms,
         formulas: formulas,
@@ -33,12 +37,28 @@ fn head(principals: u16, atoms: u16, formulas: u16) -> Counts {
 fn rest(policy: u16, goal: u16, steps: u16) -> Counts {
     let counts = p1();
     Counts {
+        version: counts.version,
+        logic: counts.logic,
         principals: counts.principals,
         atoms: counts.atoms,
         formulas: counts.formulas,
         policy: policy,
         goal: goal,
         steps: steps,
+    }
+}
+
+// Counts told with another version and logic.
+fn told(counts: Counts, version: u16, logic: u16) -> Counts {
+    Counts {
+        version: version,
+        logic: logic,
+        principals: counts.principals,
+        atoms: counts.atoms,
+        formulas: counts.formulas,
+        policy: counts.policy,
+        goal: counts.goal,
+        steps: counts.steps,
     }
 }
 
@@ -57,6 +77,9 @@ fn main() {
     lines_first();
     outputs();
     output_last();
+    versions();
+    unit_told();
+    further_down();
 }
 
 // A table too short comes before any look at the counts.
@@ -133,6 +156,8 @@ fn goals() {
     lent::exact(b"goal-65535", rest(3, 65535, 7), Edit::Nothing);
     lent::exact(b"goal-imp", rest(3, 2, 7), Edit::Nothing);
     let counts = Counts {
+        version: 1,
+        logic: 0,
         principals: 2,
         atoms: 1,
         formulas: 7,
@@ -207,4 +232,74 @@ fn output_last() {
     lent::into_room(b"room-225-forms-15", p1(), Edit::Form(15, 1), &mut out);
     let mut out_2 = [1u8; 225];
     lent::into_room(b"room-225-hit-1", p1(), Edit::Step(5, 1), &mut out_2);
+}
+
+// Versions 1 and 2 with either logic, which 0 and any other number tell; every other version is refused at line 1.
+fn versions() {
+    lent::exact(b"version-0", told(p1(), 0, 0), Edit::Nothing);
+    lent::exact(b"version-0-unit", told(p1(), 0, 1), Edit::Nothing);
+    lent::exact(b"version-2", told(p1(), 2, 0), Edit::Nothing);
+    lent::exact(b"version-2-unit", told(p1(), 2, 1), Edit::Nothing);
+    lent::exact(
+        b"version-2-logic-65535",
+        told(p1(), 2, 65535),
+        Edit::Nothing,
+    );
+    lent::exact(b"version-3", told(p1(), 3, 0), Edit::Nothing);
+    lent::exact(b"version-65535-unit", told(p1(), 65535, 1), Edit::Nothing);
+    lent::exact(
+        b"version-3-principals-0",
+        told(head(0, 1, 5), 3, 0),
+        Edit::Nothing,
+    );
+}
+
+// Unit with version 1: behind a table too short, before every line, the entries past the counts and the output.
+fn unit_told() {
+    lent::exact(b"unit", told(p1(), 1, 1), Edit::Nothing);
+    lent::exact(b"logic-2", told(p1(), 1, 2), Edit::Nothing);
+    lent::forms_short(b"forms-short-unit", told(p1(), 1, 1));
+    lent::exact(
+        b"unit-principals-0",
+        told(head(0, 1, 5), 1, 1),
+        Edit::Nothing,
+    );
+    lent::exact(b"unit-forms-15", told(p1(), 1, 1), Edit::Form(15, 1));
+    let mut out = [1u8; 225];
+    lent::into_room(b"room-225-unit", told(p1(), 1, 1), Edit::Nothing, &mut out);
+}
+
+// In version 2 every line from `principals=` on is one further down, and the text of P1 has 238 bytes.
+fn further_down() {
+    lent::exact(
+        b"version-2-principals-0",
+        told(head(0, 1, 5), 2, 0),
+        Edit::Nothing,
+    );
+    lent::exact(
+        b"version-2-p-second",
+        told(p1(), 2, 1),
+        Edit::Row(9, 0, 0, 1),
+    );
+    lent::exact(
+        b"version-2-goal-5",
+        told(rest(3, 5, 7), 2, 0),
+        Edit::Nothing,
+    );
+    lent::exact(b"version-2-hit-1", told(p1(), 2, 1), Edit::Step(5, 1));
+    lent::exact(b"version-2-forms-15", told(p1(), 2, 1), Edit::Form(15, 1));
+    let mut less = [1u8; 237];
+    lent::into_room(
+        b"version-2-room-237",
+        told(p1(), 2, 0),
+        Edit::Nothing,
+        &mut less,
+    );
+    let mut just = [1u8; 238];
+    lent::into_room(
+        b"version-2-room-238",
+        told(p1(), 2, 0),
+        Edit::Nothing,
+        &mut just,
+    );
 }

@@ -1,11 +1,13 @@
 -- The checks of writer and judge pass exactly on the requests without refusal.
 use Prim.Native.Nat.{ℕ, zero, suc}
 use mathlib.Core.Path.{_≡_, refl, _∙_}
-use mathlib.Core.List.{List, [], _∷_, _++_}
+use mathlib.Core.List.{List, [], _∷_, _++_, map}
 use lib.ListN.{length}
-use Rattle.scope.specs.Call.Answer.{Answer, told, answer}
+use Rattle.scope.specs.Call.Answer.{Answer, told, answer, furtherDown}
 use Rattle.scope.specs.File.Request.{Request}
-use Rattle.scope.specs.Call.Checked.{firstMet, eachOf, lineAnswers}
+use Rattle.scope.specs.Call.Checked.{firstMet, eachOf, bodyAnswers, lineAnswers}
+use Rattle.scope.specs.File.Refusals.{unitRefusal}
+use Rattle.scope.specs.Limits.{extraLines}
 use Rattle.scope.specs.Tools.Tests.{never}
 use Rattle.trip.specs.Several.{Two, two, Each, none-left, one-more}
 use Rattle.trip.specs.File.{Unrefused}
@@ -62,10 +64,25 @@ module _ {A : Type 0} (refusal : List A → A → ℕ) (place : List A → ℕ) 
       passes (refusal before x) (place before) (eachOf (λ b y. answer (refusal b y) (place b)) (before ++ (x ∷ [])) xs) g ∙
       each-passes e
 
-pub lines-unrefused : (q : Request) → firstMet (lineAnswers q) ≡ answer 0 0 → Unrefused q
-unfolding lineAnswers
-lines-unrefused q e =
-    let a = met-first _ _ _ e in
+-- Answers about lines further down: nothing is met in them if nothing is met in the lines.
+moved-met : (n : ℕ) (xs : List Answer) → firstMet (map (furtherDown n) xs) ≡ answer 0 0 → firstMet xs ≡ answer 0 0
+unfolding firstMet furtherDown
+moved-met n [] e = refl
+moved-met n (told zero p c ∷ xs) e = moved-met n xs e
+moved-met n (told (suc k) p c ∷ xs) e = never cc
+
+met-moved : (n : ℕ) (xs : List Answer) → firstMet xs ≡ answer 0 0 → firstMet (map (furtherDown n) xs) ≡ answer 0 0
+unfolding firstMet furtherDown
+met-moved n [] e = refl
+met-moved n (told zero p c ∷ xs) e = met-moved n xs e
+met-moved n (told (suc k) p c ∷ xs) e = never cc
+
+-- Told with its own version and logic, which no line refuses.
+pub lines-unrefused : (q : Request) → unitRefusal (q .version) (q .logic) ≡ 0 → firstMet (lineAnswers q) ≡ answer 0 0 → Unrefused q
+unfolding lineAnswers bodyAnswers
+lines-unrefused q u e =
+    let v = met-first _ _ _ e in
+    let a = met-first _ _ _ (moved-met (extraLines (q .version)) (bodyAnswers q) (v .two)) in
     let b = met-first _ _ _ (a .two) in
     let c = met-first _ _ _ (b .two) in
     let d = met-apart _ _ (c .two) in
@@ -75,6 +92,8 @@ lines-unrefused q e =
     let i = met-first _ _ _ (h .two) in
     let j = met-apart _ _ (i .two) in
     record {
+      version = v .one;
+      logic = u;
       principals = a .one;
       atoms = b .one;
       formulas = c .one;
@@ -87,9 +106,11 @@ lines-unrefused q e =
     }
 
 pub unrefused-lines : (q : Request) → Unrefused q → firstMet (lineAnswers q) ≡ answer 0 0
-unfolding lineAnswers
+unfolding lineAnswers bodyAnswers
 unrefused-lines q g =
-    passes _ _ _ (g .principals) ∙
+    passes _ _ _ (g .version) ∙
+    met-moved (extraLines (q .version)) (bodyAnswers q)
+    (passes _ _ _ (g .principals) ∙
     passes _ _ _ (g .atoms) ∙
     passes _ _ _ (g .formulas) ∙
     passes-all _ _ (each-passes _ _ (g .forms)) ∙
@@ -98,4 +119,4 @@ unrefused-lines q g =
     passes _ _ _ (g .goal) ∙
     passes _ _ _ (g .step-count) ∙
     passes-all _ _ (each-passes _ _ (g .steps)) ∙
-    nothing-met
+    nothing-met)

@@ -135,6 +135,8 @@ lent-back t room g past =
     let st = table-back stepEntry (λ r. r .right ≡ 0) step-laid (t .steps) (t .stepTable) hs (b .1) in
     λ i.
     record {
+      version = t .version;
+      logic = t .logic;
       principals = t .principals;
       atoms = t .atoms;
       formulas = nf i;
@@ -168,7 +170,7 @@ said lf ll ls q room g =
     let zl : allZero (drop (length (q .policy)) (table policyEntry ll (q .policy))) ≡ true =
     rw one-times at (table-past policyEntry Any line-laid ll (q .policy)) in
     record {
-      back = λ i. record { principals = q .principals; atoms = q .atoms; forms = fb i; policy = lb i; goal = q .goal; steps = sb i };
+      back = λ i. record { version = q .version; logic = q .logic; principals = q .principals; atoms = q .atoms; forms = fb i; policy = lb i; goal = q .goal; steps = sb i };
       form-room = table-length formEntry Any form-laid lf (q .forms) (omega (arith, s .forms, room .for-forms));
       line-room = table-length policyEntry Any line-laid ll (q .policy) (omega (arith, s .policy, room .for-lines));
       step-room = table-length stepEntry (λ r. r .right ≡ 0) step-laid ls (q .steps) (omega (arith, s .steps, room .for-steps));

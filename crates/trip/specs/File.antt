@@ -1,29 +1,35 @@
 -- The whole file: the lines of a request read back from its text, and what reads as a request's lines is its text.
-use Prim.Native.Nat.{ℕ, suc, _+_, _<_, _≤_}
+use Prim.Native.Nat.{ℕ, zero, suc, _+_, _<_, _≤_}
 use Prim.Native.String.{String}
-use mathlib.Core.Path.{_≡_, refl, ap}
-use mathlib.Core.List.{List, []}
+use mathlib.Core.Path.{_≡_, refl, sym, ap, _∙_}
+use mathlib.Core.List.{List, [], _++_}
 use mathlib.Core.Bool.{true}
+use mathlib.Core.Option.{Option, none, some}
 use native.Mathlib.Omega.{arith}
 use lib.ListN.{length}
+use Rattle.scope.specs.Logic.Facts.{Logic, plain, unit}
+use Rattle.scope.specs.Limits.{extraLines}
+use Rattle.scope.specs.Tools.Tests.{never}
 use Rattle.scope.specs.File.Bytes.{bytes, joined}
 use Rattle.scope.specs.File.Request.{Row, Request}
 use Rattle.scope.specs.File.Line.{line, lineText}
-use Rattle.scope.specs.File.Kinds.{Kind, formKinds, stepKinds, rowShape}
-use Rattle.scope.specs.File.Refusals.{countRefusal, principalsRefusal, atomsRefusal, formulasRefusal, formRefusal, clausesRefusal, clauseRefusal, goalRefusal, stepsRefusal, stepRefusal}
-use Rattle.scope.specs.File.Text.{numberShape, numberLine, formulasLine, formLine, clausesLine, clauseLine, goalLine, stepsLine, stepLine, requestText}
-use Rattle.scope.specs.File.Reader.{formItem, clauseItem, stepItem, requestLines}
+use Rattle.scope.specs.File.Kinds.{Kind, formKinds, stepKinds, logicKinds, kindFrom, rowShape, logicIn, logicWord, logicText, logicShape}
+use Rattle.scope.specs.File.Refusals.{countRefusal, versionRefusal, unitRefusal, principalsRefusal, atomsRefusal, formulasRefusal, formRefusal, clausesRefusal, clauseRefusal, goalRefusal, stepsRefusal, stepRefusal}
+use Rattle.scope.specs.File.Text.{numberShape, numberLine, logicLine, formulasLine, formLine, clausesLine, clauseLine, goalLine, stepsLine, stepLine, logicLines, bodyText, requestText}
+use Rattle.scope.specs.File.Reader.{formItem, clauseItem, stepItem, bodyLines, readLogic, requestLines}
 use Rattle.trip.specs.Numbers.{number-there, number-back}
 use Rattle.trip.specs.Cuts.{free, numeral-free}
-use Rattle.trip.specs.Words.{Neat, form-kinds-neat, step-kinds-neat}
+use Rattle.trip.specs.Words.{Neat, Known, word-found, form-kinds-neat, step-kinds-neat}
 use Rattle.trip.specs.Rows.{SayableRow, row-there, row-back, row-clean}
 use Rattle.trip.specs.Small.{count-passed, clause-named, goal-named, row-sayable}
 use Rattle.trip.specs.RowRanges.{form-passed}
 use Rattle.trip.specs.Reads.{Shaped, Reads, line-reads}
-use Rattle.trip.specs.Several.{two, Each, seq-reads, done-reads, counted-reads, reads-as}
+use Rattle.trip.specs.Several.{two, Each, seq-reads, done-reads, counted-reads, reads-as, reads-text, further-reads}
 
 -- A request without refusal, line by line.
 pub record Unrefused (q : Request) : Type 0 where
+  pub version : versionRefusal (q .version) ≡ 0
+  pub logic : unitRefusal (q .version) (q .logic) ≡ 0
   pub principals : principalsRefusal (q .principals) ≡ 0
   pub atoms : atomsRefusal (q .atoms) ≡ 0
   pub formulas : formulasRefusal (length (q .forms)) ≡ 0
@@ -41,6 +47,50 @@ number-shaped =
 pub row-shaped : (ks : List Kind) → Neat ks → Shaped (rowShape ks) (SayableRow ks)
 row-shaped ks n =
     record { there = λ r g. row-there ks r n g; back = λ s r e. row-back ks s r n e; clean = λ r g. row-clean ks r n (g .known) }
+
+-- A logic is written by its word, and no other word is read.
+pub logic-shaped : Shaped logicShape (λ l. Unit {0})
+unfolding logicWord logicText logicIn free
+logic-shaped = record { there = there; back = λ s l e. back s l (kindFrom 0 logicKinds s) refl e; clean = clean }
+  where
+    there : (l : Logic) → Unit {0} → logicWord (logicText l) ≡ some l
+    there plain u = refl
+    there unit u = refl
+
+    word : (s : List ℕ) (l : Logic) (n : ℕ) → Known logicKinds s n → logicIn (some n) ≡ some l → s ≡ logicText l
+    word s l zero k e =
+        let z : plain ≡ l = cc in
+        k .word ∙ ap logicText z
+    word s l (suc zero) k e =
+        let z : unit ≡ l = cc in
+        k .word ∙ ap logicText z
+    word s l (suc (suc n)) k e = absurd (omega (arith, k .below))
+
+    back : (s : List ℕ) (l : Logic) (x : Option ℕ) → kindFrom 0 logicKinds s ≡ x → logicIn x ≡ some l → s ≡ logicText l
+    back s l none d e = never cc
+    back s l (some n) d e = word s l n (word-found logicKinds s n d) e
+
+    clean : (l : Logic) → Unit {0} → free 10 (logicText l) ≡ true
+    clean plain u = refl
+    clean unit u = refl
+
+-- The line of the logic, where the version has one; version 1 means plain.
+plain-only : (l : Logic) → unitRefusal 1 l ≡ 0 → l ≡ plain
+unfolding unitRefusal
+plain-only plain e = refl
+plain-only unit e = absurd (omega arith)
+
+pub logic-reads : (v : ℕ) → versionRefusal v ≡ 0 → Reads (readLogic v) (logicLines v) (λ l. unitRefusal v l ≡ 0)
+unfolding readLogic logicLines unitRefusal free
+logic-reads v g =
+    let p = count-passed 1 2 v g in
+    go v (p .low) (p .high)
+  where
+    go : (v : ℕ) → 1 ≤ v → v ≤ 2 → Reads (readLogic v) (logicLines v) (λ l. unitRefusal v l ≡ 0)
+    go zero a b = absurd (omega arith)
+    go (suc zero) a b = reads-as (done-reads plain) (λ l e. rw e refl) plain-only
+    go (suc (suc zero)) a b = reads-as (line-reads logicLine (λ l. 0) 2 refl logic-shaped (λ l e. tt)) (λ l e. refl) (λ l e. refl)
+    go (suc (suc (suc v))) a b = absurd (omega arith)
 
 -- A number line whose refusal keeps the number small.
 number-reads :
@@ -93,11 +143,13 @@ most : (least high n : ℕ) → countRefusal least high n ≡ 0 → n ≤ high
 most least high n e = count-passed least high n e .high
 
 pub request-reads : Reads requestLines requestText Unrefused
-unfolding requestLines requestText joined free
+unfolding requestLines requestText bodyLines bodyText joined free
 request-reads =
     reads-as
-    (seq-reads (λ q. 1) (count-reads "version=" 1 1 1 refl (omega arith))
-    (λ v gv. seq-reads (λ q. q .principals) (count-reads "principals=" 1 16 2 refl (omega arith))
+    (seq-reads (λ q. q .version) (count-reads "version=" 1 2 1 refl (omega arith))
+    (λ v gv. reads-text (λ q g. ap (λ n. logicLines n (q .logic) ++ bodyText q) (sym (ap (λ x. x .version) (g .two .two .two .two .two .two .two))))
+    (seq-reads (λ q. q .logic) (logic-reads v gv)
+    (λ l gl. further-reads (extraLines v) (seq-reads (λ q. q .principals) (count-reads "principals=" 1 16 2 refl (omega arith))
     (λ np gp. seq-reads (λ q. q .atoms) (count-reads "atoms=" 1 256 3 refl (omega arith))
     (λ na ga. seq-reads (λ q. q .forms)
     (counted-reads formulasLine formulasRefusal 4 (formItem np na) formLine (λ before r. formRefusal np na before r ≡ 0) 1024
@@ -112,31 +164,36 @@ request-reads =
     (counted-reads stepsLine stepsRefusal (7 + length fs + length ls) (stepItem (length fs) (length ls)) stepLine (λ before r. stepRefusal r ≡ 0) 2048
     (count-reads "steps=" 1 2048 (7 + length fs + length ls) refl (omega arith)) (most 1 2048)
     (step-reads (length fs) (length ls)))
-    (λ ss gs. done-reads (record { principals = np; atoms = na; forms = fs; policy = ls; goal = g; steps = ss }))
+    (λ ss gs. done-reads (record { version = v; logic = l; principals = np; atoms = na; forms = fs; policy = ls; goal = g; steps = ss }))
     (λ ss q gs e. ap (λ x. x .steps) e))
     (λ g q gg e. ap (λ x. x .goal) (e .two)))
     (λ ls q gl e. ap (λ x. x .policy) (e .two .two)))
     (λ fs q gf e. ap (λ x. x .forms) (e .two .two .two)))
     (λ na q ga e. ap (λ x. x .atoms) (e .two .two .two .two)))
-    (λ np q gp e. ap (λ x. x .principals) (e .two .two .two .two .two)))
-    (λ v q gv e. let p = count-passed 1 1 v gv in omega arith))
+    (λ np q gp e. ap (λ x. x .principals) (e .two .two .two .two .two))))
+    (λ l q gl e. ap (λ x. x .logic) (e .two .two .two .two .two .two))))
+    (λ v q gv e. ap (λ x. x .version) (e .two .two .two .two .two .two .two)))
     (λ q g.
+    let body = g .two .two in
     record {
-      principals = g .two .one;
-      atoms = g .two .two .one;
-      formulas = g .two .two .two .one .one;
-      forms = g .two .two .two .one .two;
-      clauses = g .two .two .two .two .one .one;
-      policy = g .two .two .two .two .one .two;
-      goal = g .two .two .two .two .two .one;
-      step-count = g .two .two .two .two .two .two .one .one;
-      steps = g .two .two .two .two .two .two .one .two;
+      version = g .one;
+      logic = g .two .one;
+      principals = body .one;
+      atoms = body .two .one;
+      formulas = body .two .two .one .one;
+      forms = body .two .two .one .two;
+      clauses = body .two .two .two .one .one;
+      policy = body .two .two .two .one .two;
+      goal = body .two .two .two .two .one;
+      step-count = body .two .two .two .two .two .one .one;
+      steps = body .two .two .two .two .two .one .two;
     })
     (λ q g.
-    two refl
+    two (g .version)
+    (two (g .logic)
     (two (g .principals)
     (two (g .atoms)
     (two (two (g .formulas) (g .forms))
     (two (two (g .clauses) (g .policy))
     (two (g .goal)
-    (two (two (g .step-count) (g .steps)) refl)))))))
+    (two (two (g .step-count) (g .steps)) refl))))))))

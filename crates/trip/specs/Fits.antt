@@ -8,13 +8,15 @@ use native.Mathlib.Nat.{mul-suc}
 use lib.Dec.{leb, ltb}
 use lib.ListN.{length, take, length-append}
 use borrow.Author.Tests.{leb-true}
+use Rattle.scope.specs.Logic.Facts.{Logic, plain, unit}
+use Rattle.scope.specs.Limits.{hasLogic}
 use Rattle.scope.specs.File.Request.{Row, Request}
 use Rattle.scope.specs.File.Bytes.{joined}
 use Rattle.scope.specs.File.Number.{numeral}
 use Rattle.scope.specs.File.Line.{Line, lineText, manyText, countedText}
-use Rattle.scope.specs.File.Kinds.{Kind, kindIn, spaced, operandsOf, rowText, formKinds, stepKinds}
+use Rattle.scope.specs.File.Kinds.{Kind, kindIn, spaced, operandsOf, rowText, formKinds, stepKinds, logicText}
 use Rattle.scope.specs.File.Refusals.{formRefusal, stepRefusal}
-use Rattle.scope.specs.File.Text.{versionLine, principalsLine, atomsLine, formulasLine, formLine, clausesLine, clauseLine, goalLine, stepsLine, stepLine, requestText}
+use Rattle.scope.specs.File.Text.{versionLine, logicLine, principalsLine, atomsLine, formulasLine, formLine, clausesLine, clauseLine, goalLine, stepsLine, stepLine, logicLines, bodyText, requestText}
 use Rattle.trip.specs.Words.{everyKind, every-at}
 use Rattle.trip.specs.RowRanges.{row-passed, form-passed}
 use Rattle.trip.specs.Small.{count-passed}
@@ -112,9 +114,17 @@ step-fits : (before : List Row) (r : Row) → stepRefusal r ≡ 0 → length (li
 unfolding stepRefusal
 step-fits before r e = line-fits stepLine r 9 (row-fits stepKinds 9 r steps-short (row-passed 0 0 0 stepKinds r e .known))
 
--- The ten kinds of lines, each with the largest numbers.
+logic-fits : (v : ℕ) (l : Logic) → length (logicLines v l) ≤ 12
+unfolding logicLines logicText
+logic-fits v l = fits-choice 12 (hasLogic v) _ _ (line-fits logicLine l 5 (word l)) (omega arith)
+  where
+    word : (l : Logic) → length (logicText l) ≤ 5
+    word plain = omega arith
+    word unit = omega arith
+
+-- The eleven kinds of lines, each with the largest numbers.
 pub text-fits : (q : Request) → Unrefused q → length (requestText q) ≤ 65536
-unfolding requestText joined
+unfolding requestText bodyText joined
 text-fits q g =
     let f = count-passed 1 1024 (length (q .forms)) (g .formulas) in
     let c = count-passed 0 128 (length (q .policy)) (g .clauses) in
@@ -126,7 +136,8 @@ text-fits q g =
     let steps : length (countedText stepsLine stepLine (q .steps)) ≤ 30732 =
     omega (arith, counted-fits stepsLine stepLine 15 (q .steps) (numeral-fits (length (q .steps))) step-fits (g .steps)) in
     let parts : Within
-    (lineText versionLine 1 ∷
+    (lineText versionLine (q .version) ∷
+    logicLines (q .version) (q .logic) ∷
     lineText principalsLine (q .principals) ∷
     lineText atomsLine (q .atoms) ∷
     countedText formulasLine formLine (q .forms) ∷
@@ -134,12 +145,13 @@ text-fits q g =
     lineText goalLine (q .goal) ∷
     countedText stepsLine stepLine (q .steps) ∷
     [])
-    (14 ∷ 17 ∷ 12 ∷ 22543 ∷ 1678 ∷ 11 ∷ 30732 ∷ []) =
-    text-more (line-fits versionLine 1 5 (numeral-fits 1))
+    (14 ∷ 12 ∷ 17 ∷ 12 ∷ 22543 ∷ 1678 ∷ 11 ∷ 30732 ∷ []) =
+    text-more (line-fits versionLine (q .version) 5 (numeral-fits (q .version)))
+    (text-more (logic-fits (q .version) (q .logic))
     (text-more (line-fits principalsLine (q .principals) 5 (numeral-fits (q .principals)))
     (text-more (line-fits atomsLine (q .atoms) 5 (numeral-fits (q .atoms)))
     (text-more forms
     (text-more clauses
-    (text-more (line-fits goalLine (q .goal) 5 (numeral-fits (q .goal))) (text-more steps no-text)))))) in
-    let whole : length (requestText q) ≤ 55007 = joined-fits parts in
+    (text-more (line-fits goalLine (q .goal) 5 (numeral-fits (q .goal))) (text-more steps no-text))))))) in
+    let whole : length (requestText q) ≤ 55019 = joined-fits parts in
     omega arith

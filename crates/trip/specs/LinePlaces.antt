@@ -1,6 +1,6 @@
 -- Readers keep count of the lines: what is read is whole lines, a line's number is 1 and the LFs before it, and a refusal's place is the
 -- line that met it, whatever stands behind that line. One law for a line and for each way to put readers together.
-use Prim.Native.Nat.{ℕ, zero, suc, _+_}
+use Prim.Native.Nat.{ℕ, zero, suc, _+_, _≤_}
 use mathlib.Core.Path.{_≡_, refl, sym, ap, _∙_}
 use mathlib.Core.List.{List, [], _∷_, _++_, append-assoc}
 use mathlib.Core.Bool.{Bool, true, false, cond}
@@ -8,12 +8,13 @@ use mathlib.Core.Option.{Option, none, some}
 use native.Mathlib.Omega.{arith}
 use lib.Dec.{eqb}
 use lib.ListN.{length, length-append}
-use Rattle.scope.specs.Call.Answer.{told, columnFor}
-use Rattle.scope.specs.File.Line.{Line, Value, val, out, Read, ok, bad, Reader, Cut, parts, uncut, cut, cutAfter, strip, orRefused, shapedAs, valued, placed, lineOf, lineStop, line, andThen, _>>=_, done, many, counted}
+use Rattle.scope.specs.Call.Answer.{told, columnFor, furtherDown}
+use Rattle.scope.specs.File.Line.{Line, Value, val, out, Read, ok, bad, Reader, Cut, parts, uncut, cut, cutAfter, strip, orRefused, shapedAs, valued, placed, lineOf, lineStop, line, andThen, _>>=_, done, movedDown, further, many, counted}
 use Rattle.scope.specs.Tools.Tests.{never}
 use Rattle.trip.specs.Cuts.{free, free-cons, free-one, cut-there, cut-back}
 use Rattle.trip.specs.LineRefusals.{OfLine, shape, in-shape, Mild, mild-column, shape-column}
 use Rattle.trip.specs.LineStops.{OwnLine}
+use Rattle.trip.specs.Several.{moved-back, bad-moved}
 
 -- How many LFs stand in a text.
 unfoldable pub lfs : List ℕ → ℕ
@@ -34,6 +35,15 @@ lfs-append (b ∷ s) t = go (eqb b 10) (lfs-append s t)
     go : (x : Bool) → lfs (s ++ t) ≡ lfs s + lfs t → cond x (suc (lfs (s ++ t))) (lfs (s ++ t)) ≡ cond x (suc (lfs s)) (lfs s) + lfs t
     go true ih = omega arith
     go false ih = ih
+
+pub lfs-within : (s : List ℕ) → lfs s ≤ length s
+unfolding lfs
+lfs-within [] = omega arith
+lfs-within (b ∷ s) = go (eqb b 10) (lfs-within s)
+  where
+    go : (x : Bool) → lfs s ≤ length s → cond x (suc (lfs s)) (lfs s) ≤ suc (length s)
+    go true h = omega arith
+    go false h = omega arith
 
 pub whole-append : (s t : List ℕ) → whole s ≡ true → whole t ≡ true → whole (s ++ t) ≡ true
 unfolding whole
@@ -284,6 +294,54 @@ from-as {i = i} {last = last} {m = m} e h f =
       stops = f .stops;
     } in
     rw e at g
+
+-- And of what is read, where the reader says more of it.
+pub from-told : {A : Type 0} {i : ℕ} {end last : A → ℕ} {m : Reader A} → ((s : List ℕ) (a : A) (rest : List ℕ) → m s ≡ ok a rest → last a ≡ end a) →
+    From i end m → From i last m
+from-told h f =
+    record {
+      goes =
+          λ s a rest d.
+          let g = f .goes s a rest d in
+          record { gone = g .gone; parted = g .parted; lines = g .lines; stands = h s a rest d ∙ g .stands; whatever = g .whatever };
+      stops = f .stops;
+    }
+
+-- Lines n lines further down.
+module _ {A : Type 0} {i : ℕ} {end : A → ℕ} {m : Reader A} (n : ℕ) (f : From i end m) where
+  further-stops : (s : List ℕ) (k j column : ℕ) → movedDown n (m s) ≡ bad (told k j column) → Stopped (further n m) (i + n) s k j column
+  unfolding further movedDown furtherDown
+  further-stops s k j column e =
+      let d = bad-moved n (m s) k j column e in
+      let z = d .lines in
+      let p = f .stops s k (d .above) column (d .is) in
+      record {
+        before = p .before;
+        rest = p .rest;
+        parted = p .parted;
+        lines = p .lines;
+        place = omega (arith, p .place);
+        number = p .number;
+        short = rw (p .short) (ap (λ v. bad (told 2 v 1)) z);
+        whatever = λ l r c t. rw (p .whatever l r c t) (ap (λ v. bad (told k v column)) z);
+      }
+
+  pub further-from : From (i + n) (λ a. end a + n) (further n m)
+  unfolding further movedDown
+  further-from =
+      record {
+        goes =
+            λ s a rest e.
+            let p = f .goes s a rest (moved-back n (m s) a rest e) in
+            record {
+              gone = p .gone;
+              parted = p .parted;
+              lines = p .lines;
+              stands = omega (arith, p .stands);
+              whatever = λ t. rw (p .whatever t) refl;
+            };
+        stops = λ s k j c e. further-stops s k j c e;
+      }
 
 -- Several things, the next one at the next line.
 module _ {A : Type 0} (item : List A → Reader A) (i : ℕ) (each : (before : List A) → From (i + length before) (λ a. suc (i + length before)) (item before)) where

@@ -43,7 +43,7 @@ pub shape-column : (k column : ℕ) → k ≡ 2 → OfLine k (columnFor k (suc c
 unfolding columnFor
 shape-column k column e = shape e (rw e (omega arith))
 
-mild-none : Mild 0
+pub mild-none : Mild 0
 mild-none h = absurd (omega arith)
 
 mild-demand : (t : Bool) (k n : ℕ) → InShape k → Mild n → Mild (demand t k n)

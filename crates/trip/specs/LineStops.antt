@@ -12,11 +12,11 @@ use Rattle.scope.specs.Logic.Form.{both}
 use Rattle.scope.specs.File.Number.{isDigit}
 use Rattle.scope.specs.File.Stops.{byteStop, wordStop, endStop, mostDigits, digitsUpTo, numberStop, stoppedAt, digitsStop, itemsStop, larger}
 use Rattle.scope.specs.File.Line.{Line, lineStop}
-use Rattle.scope.specs.File.Kinds.{Kind, kindIn, kindStop, kindsStop}
+use Rattle.scope.specs.File.Kinds.{Kind, kindIn, logicKinds, kindStop, kindsStop}
 use Rattle.scope.specs.File.Bytes.{bytes}
-use Rattle.scope.specs.File.Text.{numberLine, rowLine}
+use Rattle.scope.specs.File.Text.{numberLine, logicLine, rowLine}
 use Rattle.trip.specs.Cuts.{free, free-cons}
-use Rattle.trip.specs.Words.{Neat, neat-kind}
+use Rattle.trip.specs.Words.{Neat, neat-kind, logic-kinds-neat}
 
 -- What stands behind the first LF does not matter.
 record Own (stop : List ℕ → ℕ) : Type 0 where
@@ -120,6 +120,11 @@ pub record OwnLine {A : Type 0} (l : Line A) : Type 0 where
 pub number-own : (key : String) → free 10 (bytes key) ≡ true → lineStop (numberLine key) [] ≡ 0 → OwnLine (numberLine key)
 unfolding lineStop
 number-own key f e = record { missing = e; own = word-own (bytes key) (digitsStop endStop) f (digits-own endStop end-own) .own }
+
+pub logic-own : OwnLine logicLine
+unfolding lineStop wordStop byteStop free
+logic-own =
+    record { missing = refl; own = word-own (bytes "logic=") (kindsStop logicKinds) refl (kinds-own logicKinds (λ j h. neat-kind logicKinds j logic-kinds-neat h .no-end)) .own }
 
 pub row-own : (key : String) (ks : List Kind) → free 10 (bytes key) ≡ true → Neat ks → lineStop (rowLine key ks) [] ≡ 0 → OwnLine (rowLine key ks)
 unfolding lineStop

@@ -3,23 +3,24 @@
 use Prim.Native.Nat.{ℕ, zero, suc, _<_}
 use Prim.Native.String.{String}
 use mathlib.Core.Path.{_≡_, refl, sym, ap, _∙_}
-use mathlib.Core.List.{List, [], _∷_, _++_, append-assoc, append-nil}
+use mathlib.Core.List.{List, [], _∷_, _++_, append-assoc, append-nil, map}
 use mathlib.Core.Bool.{Bool, true, false, cond}
 use native.Mathlib.Omega.{arith}
 use lib.Dec.{leb}
 use lib.ListN.{length}
-use Rattle.scope.specs.Call.Answer.{Answer, told, answer}
+use Rattle.scope.specs.Call.Answer.{Answer, told, answer, furtherDown}
+use Rattle.scope.specs.Logic.Facts.{Logic}
 use Rattle.scope.specs.File.Bytes.{bytes, joined}
 use Rattle.scope.specs.File.Request.{Request}
-use Rattle.scope.specs.File.Line.{Line, Read, ok, bad, Reader, orRefused, placed, line, lineText, andThen, _>>=_, done, many, manyText, counted, countedText}
-use Rattle.scope.specs.Limits.{mostPrincipals, mostAtoms, mostFormulas, mostPolicyLines, mostSteps}
-use Rattle.scope.specs.Limits.{versionAt, formAt, clausesAt, clauseAt, goalAt, stepsAt, stepAt}
+use Rattle.scope.specs.File.Line.{Line, Read, ok, bad, Reader, orRefused, placed, line, lineText, andThen, _>>=_, done, movedDown, further, many, manyText, counted, countedText}
+use Rattle.scope.specs.Limits.{mostVersion, mostPrincipals, mostAtoms, mostFormulas, mostPolicyLines, mostSteps}
+use Rattle.scope.specs.Limits.{versionAt, extraLines, formAt, clausesAt, clauseAt, goalAt, stepsAt, stepAt}
 use Rattle.scope.specs.File.Kinds.{formKinds, stepKinds}
-use Rattle.scope.specs.File.Refusals.{demand, countRefusal, versionRefusal, principalsRefusal, atomsRefusal, formulasRefusal, formRefusal, clausesRefusal, clauseRefusal, goalRefusal, stepsRefusal, stepRefusal}
-use Rattle.scope.specs.File.Text.{numberLine, formulasLine, formLine, clausesLine, clauseLine, stepsLine, stepLine, requestText}
-use Rattle.scope.specs.File.Reader.{refused, formItem, clauseItem, stepItem, requestLines, ended, readRequest}
+use Rattle.scope.specs.File.Refusals.{demand, versionRefusal, unitRefusal, principalsRefusal, atomsRefusal, formulasRefusal, formRefusal, clausesRefusal, clauseRefusal, goalRefusal, stepsRefusal, stepRefusal}
+use Rattle.scope.specs.File.Text.{numberLine, versionLine, formulasLine, formLine, clausesLine, clauseLine, stepsLine, stepLine, logicLines, bodyText, requestText}
+use Rattle.scope.specs.File.Reader.{refused, formItem, clauseItem, stepItem, bodyLines, readLogic, requestLines, ended, readRequest}
 use Rattle.scope.specs.Call.Tables.{Lent, hasRoom, requestOf}
-use Rattle.scope.specs.Call.Checked.{firstMet, eachOf, lineAnswers, pastZero, checked}
+use Rattle.scope.specs.Call.Checked.{firstMet, eachOf, bodyAnswers, lineAnswers, pastZero, checked}
 use Rattle.scope.specs.Call.Calls.{written, unwritten, writtenIf, writing}
 use Rattle.scope.specs.Tools.Tests.{never, demand-passes}
 use Rattle.trip.specs.Cuts.{free, free-append, cut-there, strip-there}
@@ -27,10 +28,10 @@ use Rattle.trip.specs.Words.{form-kinds-neat, step-kinds-neat}
 use Rattle.trip.specs.Rows as Rows
 use Rattle.trip.specs.Reads.{Shaped}
 use Rattle.trip.specs.Packing.{All, none-left, one-more}
-use Rattle.trip.specs.File.{number-shaped, row-shaped}
+use Rattle.trip.specs.File.{number-shaped, row-shaped, logic-reads}
 use Rattle.trip.specs.LineRefusals.{Mild, mild-column, count-mild, form-mild, clause-mild, goal-mild, step-mild}
 use Rattle.trip.specs.Checks.{passes}
-use Rattle.trip.specs.Trip.{check-law}
+use Rattle.trip.specs.Trip.{check-law, kept-logic}
 
 -- What a reader gives under the first refusal met: the thing and the rest where none is, else that refusal.
 unfoldable metThen : {A : Type 0} → Answer → A → List ℕ → Read A
@@ -77,6 +78,25 @@ seq-meets {A} {B} {m} {s} {t} {xs} {ys} {a} {b} next p q =
     goes-on (told zero p c ∷ zs) rest = goes-on zs rest
     goes-on (told (suc k) p c ∷ zs) rest = refl
 
+-- A refusal of the first is the answer, whatever the second is.
+seq-refused :
+    {A B : Type 0} {m : Reader A} {s : List ℕ} {ys : List Answer} {a : A} {b : B} (next : A → Reader B) (t : List ℕ) (n p : ℕ) → 0 < n
+    → Meets m s (answer n p ∷ []) a → Meets (_>>=_ m next) (s ++ t) (answer n p ∷ ys) b
+unfolding _>>=_ andThen firstMet metThen
+seq-refused next t zero p h q = absurd (omega arith)
+seq-refused {s = s} next t (suc n) p h q = record { gives = λ rest. rw (append-assoc s t rest, q .gives (t ++ rest)) refl }
+
+-- Lines further down meet the same, further down.
+further-meets :
+    {A : Type 0} (n : ℕ) {m : Reader A} {s : List ℕ} {xs : List Answer} {a : A} → Meets m s xs a → Meets (further n m) s (map (furtherDown n) xs) a
+unfolding further movedDown furtherDown firstMet metThen
+further-meets {A} n {m} {s} {xs} {a} p = record { gives = λ rest. rw (p .gives rest) (moved xs rest) }
+  where
+    moved : (zs : List Answer) (rest : List ℕ) → movedDown n (metThen (firstMet zs) a rest) ≡ metThen (firstMet (map (furtherDown n) zs)) a rest
+    moved [] rest = refl
+    moved (told zero p c ∷ zs) rest = moved zs rest
+    moved (told (suc k) p c ∷ zs) rest = refl
+
 -- What is put together from a thing meets what the thing met.
 then-meets :
     {A B : Type 0} (f : A → B) {m : Reader A} {s : List ℕ} {xs : List Answer} {a : A} → Meets m s xs a
@@ -107,8 +127,11 @@ counted-meets :
 unfolding counted countedText
 counted-meets l refusal i item it about Fits xs count meets all = seq-meets _ count (many-meets item (lineText it) about Fits meets all [])
 
--- A request whose every line can be said in shape: numbers of at most five digits, known kinds, and 0 for each operand that a kind lacks.
+-- A request whose every line can be said in shape: numbers of at most five digits, known kinds, and 0 for each operand that a kind lacks. No
+-- text says unit in version 1.
 pub record InShape (q : Request) : Type 0 where
+  pub version : q .version < 100000
+  pub logic : unitRefusal (q .version) (q .logic) ≡ 0
   pub principals : q .principals < 100000
   pub atoms : q .atoms < 100000
   pub formulas : length (q .forms) < 100000
@@ -124,13 +147,12 @@ number-meets :
     → Meets (line (numberLine key) refusal i) (lineText (numberLine key) n) (answer (refusal n) i ∷ []) n
 number-meets key refusal i n m f h = line-meets (numberLine key) refusal i n m f number-shaped h
 
-request-meets : (q : Request) → InShape q → Meets requestLines (requestText q) (answer (versionRefusal 1) versionAt ∷ lineAnswers q) q
-unfolding requestLines requestText joined lineAnswers free
-request-meets q g =
+body-meets : (q : Request) → InShape q → Meets (bodyLines (q .version) (q .logic)) (bodyText q) (bodyAnswers q) q
+unfolding bodyLines bodyText joined bodyAnswers free
+body-meets q g =
     let nf = length (q .forms) in
     let nl = length (q .policy) in
-    seq-meets _ (number-meets "version=" versionRefusal 1 1 (count-mild 1 1 1) refl (omega arith))
-    (seq-meets _ (number-meets "principals=" principalsRefusal 2 (q .principals) (count-mild 1 mostPrincipals (q .principals)) refl (g .principals))
+    seq-meets _ (number-meets "principals=" principalsRefusal 2 (q .principals) (count-mild 1 mostPrincipals (q .principals)) refl (g .principals))
     (seq-meets _ (number-meets "atoms=" atomsRefusal 3 (q .atoms) (count-mild 1 mostAtoms (q .atoms)) refl (g .atoms))
     (seq-meets _
     (counted-meets formulasLine formulasRefusal 4 (formItem (q .principals) (q .atoms)) formLine
@@ -152,11 +174,29 @@ request-meets q g =
     (number-meets "steps=" stepsRefusal (stepsAt nf nl) (length (q .steps)) (count-mild 1 mostSteps (length (q .steps))) refl (g .step-count))
     (λ before r h. line-meets stepLine stepRefusal (stepAt nf nl (suc (length before))) r (step-mild r) refl (row-shaped stepKinds step-kinds-neat) h)
     (g .steps))
-    (done-meets q)))))))
+    (done-meets q))))))
+
+-- The line of the logic is refused nothing.
+logic-meets : (v : ℕ) (l : Logic) → versionRefusal v ≡ 0 → unitRefusal v l ≡ 0 → Meets (readLogic v) (logicLines v l) [] l
+unfolding firstMet metThen
+logic-meets v l g u = record { gives = λ rest. logic-reads v g .there l rest u }
+
+request-meets : (q : Request) → InShape q → Meets requestLines (requestText q) (lineAnswers q) q
+unfolding requestLines requestText lineAnswers free
+request-meets q g = go (versionRefusal (q .version)) refl
+  where
+    first : Meets (line versionLine versionRefusal versionAt) (lineText versionLine (q .version)) (answer (versionRefusal (q .version)) versionAt ∷ []) (q .version)
+    first = number-meets "version=" versionRefusal versionAt (q .version) (count-mild 1 mostVersion (q .version)) refl (g .version)
+
+    go : (n : ℕ) → versionRefusal (q .version) ≡ n → Meets requestLines (requestText q) (lineAnswers q) q
+    go zero e =
+        seq-meets _ first
+        (seq-meets _ (logic-meets (q .version) (q .logic) e (g .logic)) (further-meets (extraLines (q .version)) (body-meets q g)))
+    go (suc n) e = seq-refused _ _ (versionRefusal (q .version)) versionAt (omega arith) first
 
 -- Reading the text of such a request gives what the checks of its lines give.
 text-told : (q : Request) → InShape q → readRequest (requestText q) ≡ ended (metThen (firstMet (lineAnswers q)) q [])
-unfolding readRequest firstMet countRefusal
+unfolding readRequest
 text-told q g = ap (λ s. ended (requestLines s)) (sym (append-nil (requestText q))) ∙ ap ended (request-meets q g .gives [])
 
 pub lines-refused :
@@ -197,9 +237,9 @@ met-before k i c (suc d) [] e =
 met-before k i c d (told zero p n ∷ xs) e = met-before k i c d xs e
 met-before k i c d (told (suc j) p n ∷ xs) e = e
 
--- With room, the lines are asked first.
+-- With room, and with a logic that a text can say, the lines are asked first.
 room-law : (t : Lent) → Sayable t → checked t ≡ firstMet (lineAnswers (requestOf t) ++ answer (demand (pastZero t) 3 0) 0 ∷ [])
-room-law t g = check-law t ∙ passes _ _ _ (demand-passes _ 13 0 (g .room))
+room-law t g = check-law t ∙ passes _ _ _ (demand-passes _ 13 0 (g .room)) ∙ passes _ _ _ (kept-logic t (g .in-shape .logic))
 
 -- What refuses the text refuses the tables, at the same line; and what refuses the tables at a line refuses the text there.
 pub text-checked : (t : Lent) (k i c : ℕ) → Sayable t → readRequest (requestText (requestOf t)) ≡ refused (told k i c) → checked t ≡ told k i c

@@ -28,3 +28,8 @@ read-unrefused s q e = request-reads .good s q [] (whole (requestLines s) q e)
 pub read-text : (s : List ℕ) (q : Request) → readRequest s ≡ read q → s ≡ requestText q
 unfolding readRequest
 read-text s q e = request-reads .back s q [] (whole (requestLines s) q e) ∙ append-nil (requestText q)
+
+pub same-request : (q r : Request) → Unrefused q → Unrefused r → requestText q ≡ requestText r → q ≡ r
+same-request q r g h e =
+    let same : read q ≡ read r = sym (text-reads q g) ∙ ap readRequest e ∙ text-reads r h in
+    cc

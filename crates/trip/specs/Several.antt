@@ -4,17 +4,18 @@ use mathlib.Core.Path.{_≡_, refl, sym, ap, _∙_}
 use mathlib.Core.List.{List, [], _∷_, _++_, append-assoc, append-nil}
 use native.Mathlib.Omega.{arith}
 use lib.ListN.{length, take, getD, length-append}
-use Rattle.scope.specs.File.Line.{Line, Read, ok, bad, Reader, line, lineText, andThen, _>>=_, done, many, manyText, counted, countedText}
+use Rattle.scope.specs.Call.Answer.{told, furtherDown}
+use Rattle.scope.specs.File.Line.{Line, Read, ok, bad, Reader, line, lineText, andThen, _>>=_, done, movedDown, further, many, manyText, counted, countedText}
 use Rattle.scope.specs.Tools.Tests.{never}
 use Rattle.trip.specs.Reads.{Reads}
 
-record After {A B : Type 0} (x : Read A) (next : A → Reader B) (b : B) (rest : List ℕ) : Type 0 where
-  first : A
-  middle : List ℕ
-  begun : x ≡ ok first middle
-  ended : next first middle ≡ ok b rest
+pub record After {A B : Type 0} (x : Read A) (next : A → Reader B) (b : B) (rest : List ℕ) : Type 0 where
+  pub first : A
+  pub middle : List ℕ
+  pub begun : x ≡ ok first middle
+  pub ended : next first middle ≡ ok b rest
 
-after-back : {A B : Type 0} (x : Read A) (next : A → Reader B) (b : B) (rest : List ℕ) → andThen x next ≡ ok b rest → After x next b rest
+pub after-back : {A B : Type 0} (x : Read A) (next : A → Reader B) (b : B) (rest : List ℕ) → andThen x next ≡ ok b rest → After x next b rest
 unfolding andThen
 after-back (ok a r) next b rest e = record { first = a; middle = r; begun = refl; ended = e }
 after-back (bad a) next b rest e = never cc
@@ -157,4 +158,43 @@ reads-as p to from =
       there = λ a rest g. p .there a rest (from a g);
       back = p .back;
       good = λ s a rest e. to a (p .good s a rest e);
+    }
+
+-- The text by another name.
+pub reads-text :
+    {A : Type 0} {rd : Reader A} {text other : A → List ℕ} {G : A → Type 0} → ((a : A) → G a → text a ≡ other a) → Reads rd text G
+    → Reads rd other G
+reads-text {rd = rd} same p =
+    record {
+      there = λ a rest g. ap (λ t. rd (t ++ rest)) (sym (same a g)) ∙ p .there a rest g;
+      back = λ s a rest e. p .back s a rest e ∙ ap (λ t. t ++ rest) (same a (p .good s a rest e));
+      good = p .good;
+    }
+
+-- Lines further down are read alike.
+pub moved-back : {A : Type 0} (n : ℕ) (x : Read A) (a : A) (rest : List ℕ) → movedDown n x ≡ ok a rest → x ≡ ok a rest
+unfolding movedDown
+moved-back n (ok b r) a rest e = e
+moved-back n (bad b) a rest e = never cc
+
+pub record Moved {A : Type 0} (n : ℕ) (x : Read A) (k j c : ℕ) : Type 0 where
+  pub above : ℕ
+  pub lines : above + n ≡ j
+  pub is : x ≡ bad (told k above c)
+
+pub bad-moved : {A : Type 0} (n : ℕ) (x : Read A) (k j c : ℕ) → movedDown n x ≡ bad (told k j c) → Moved n x k j c
+unfolding movedDown furtherDown
+bad-moved n (ok b r) k j c e = never cc
+bad-moved n (bad (told m h d)) k j c e =
+    let y : m ≡ k = cc in
+    let z : d ≡ c = cc in
+    record { above = h; lines = cc; is = rw (y, z) refl }
+
+pub further-reads : {A : Type 0} {rd : Reader A} {text : A → List ℕ} {G : A → Type 0} (n : ℕ) → Reads rd text G → Reads (further n rd) text G
+unfolding further movedDown
+further-reads {rd = rd} n p =
+    record {
+      there = λ a rest g. rw (p .there a rest g) refl;
+      back = λ s a rest e. p .back s a rest (moved-back n (rd s) a rest e);
+      good = λ s a rest e. p .good s a rest (moved-back n (rd s) a rest e);
     }

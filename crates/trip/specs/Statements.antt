@@ -1,21 +1,22 @@
 -- The round trip. Over requests: a request without refusal has one text, which reads back. Over calls: what the writer wrote reads back
 -- to the very counts, goal and tables, and what the reader read is written again as the very text. Last, tables are refused at the line
 -- where their text is, and a text at the line that met the refusal. All of it for all inputs.
-use Prim.Native.Nat.{ℕ, suc, _≤_}
-use mathlib.Core.Path.{_≡_, sym, _∙_}
+use Prim.Native.Nat.{ℕ, suc, _+_, _≤_}
+use mathlib.Core.Path.{_≡_, sym, ap, _∙_}
 use mathlib.Core.List.{List}
 use mathlib.Core.Bool.{true}
+use native.Mathlib.Omega.{arith}
 use lib.ListN.{length}
 use Rattle.scope.specs.Call.Answer.{told, answer}
 use Rattle.scope.specs.File.Request.{Request}
 use Rattle.scope.specs.File.Text.{requestText}
-use Rattle.scope.specs.Limits.{mostBytes, endAt}
+use Rattle.scope.specs.Limits.{mostBytes, endAt, extraLines}
 use Rattle.scope.specs.File.Reader.{read, refused, readRequest}
 use Rattle.scope.specs.Call.Tables.{Lent, requestOf}
 use Rattle.scope.specs.Call.Checked.{firstMet, lineAnswers, checked}
 use Rattle.scope.specs.Call.Calls.{reading, lentAfter, written, unwritten, writing}
 use Rattle.trip.specs.File.{Unrefused}
-use Rattle.trip.specs.Requests.{text-reads, read-unrefused, read-text}
+use Rattle.trip.specs.Requests.{text-reads, read-unrefused, read-text, same-request}
 use Rattle.trip.specs.Fits.{text-fits}
 use Rattle.trip.specs.Trip.{Fine, checked-fine, fine-checked, write-again, readFor, leftFor, write-then-read, read-then-write}
 use Rattle.trip.specs.LinePlaces.{lfs, whole}
@@ -36,6 +37,15 @@ is-the-text = read-text
 -- Two texts that read to the same request are the same.
 pub one-text : (s t : List ℕ) (q : Request) → readRequest s ≡ read q → readRequest t ≡ read q → s ≡ t
 one-text s t q d e = read-text s q d ∙ sym (read-text t q e)
+
+-- Two requests without refusal that have the same text are the same. So the text of a version 1 request is the text of no version 2 request.
+pub one-request : (q r : Request) → Unrefused q → Unrefused r → requestText q ≡ requestText r → q ≡ r
+one-request = same-request
+
+pub versions-apart : (q r : Request) → Unrefused q → Unrefused r → q .version ≡ 1 → r .version ≡ 2 → requestText q ≡ requestText r → ⊥
+versions-apart q r g h one two e =
+    let same = ap (λ x. x .version) (same-request q r g h e) in
+    omega (arith, same)
 
 -- The largest text that is written is no file over 65,536 bytes: refusal 1 is never met on it.
 pub fits-a-file : (q : Request) → Unrefused q → length (requestText q) ≤ mostBytes
@@ -62,8 +72,8 @@ pub trip-read :
     → writing (lentAfter forms policy steps (read q)) len ≡ written s
 trip-read = read-then-write
 
--- '3, 4 or 5 at the line where the text would have it': of tables with room whose lines can all be said in shape (`Sayable`), the first
--- refusal that the lines meet is the one that reading their text gives.
+-- '3, 4 or 5 at the line where the text would have it', in either version: of tables with room whose lines can all be said in shape
+-- (`Sayable`), the first refusal that the lines meet is the one that reading their text gives.
 pub refused-alike :
     (t : Lent) (k i c : ℕ) → Sayable t → firstMet (lineAnswers (requestOf t)) ≡ told (suc k) i c
     → readRequest (requestText (requestOf t)) ≡ refused (told (suc k) i c)
@@ -89,8 +99,8 @@ writes-alike t len k i c g = (unwritten-text t len k i c g, text-unwritten t len
 pub placed-right : (s : List ℕ) (k i c : ℕ) → readRequest s ≡ refused (told k i c) → Where s k i c
 placed-right = refused-where
 
--- And a text that reads is whole lines, as many as the request has: the line behind them is `endAt`'s.
+-- And a text that reads is whole lines, as many as the request has: the line behind them is `endAt`'s, in version 2 one further down.
 pub counted-right :
     (s : List ℕ) (q : Request) → readRequest s ≡ read q
-    → (whole s ≡ true) × (endAt (length (q .forms)) (length (q .policy)) (length (q .steps)) ≡ suc (lfs s))
+    → (whole s ≡ true) × (endAt (length (q .forms)) (length (q .policy)) (length (q .steps)) + extraLines (q .version) ≡ suc (lfs s))
 counted-right = read-lines

@@ -9,7 +9,7 @@ use lib.ListN.{length}
 use borrow.Author.Tests.{leb-true, le-leb}
 use Rattle.scope.specs.Call.Answer.{Answer, told, answer}
 use Rattle.scope.specs.File.Request.{Request}
-use Rattle.scope.specs.File.Refusals.{demand}
+use Rattle.scope.specs.File.Refusals.{demand, unitRefusal}
 use Rattle.scope.specs.File.Text.{requestText}
 use Rattle.scope.specs.File.Reader.{Outcome, read, refused, readRequest}
 use Rattle.scope.specs.Call.Tables.{Lent, hasRoom, requestOf, lentOf}
@@ -34,9 +34,18 @@ pub check-law :
     → checked t
     ≡ firstMet
     (answer (demand (hasRoom (length (t .formTable)) (length (t .policyTable)) (length (t .stepTable))) 13 0) 0 ∷
+    answer (unitRefusal (t .version) (t .logic)) 0 ∷
     (lineAnswers (requestOf t) ++ answer (demand (pastZero t) 3 0) 0 ∷ []))
 unfolding checked
 check-law t = refl
+
+logic-kept : (t : Lent) → unitRefusal (t .version) (t .logic) ≡ 0 → unitRefusal (requestOf t .version) (requestOf t .logic) ≡ 0
+unfolding requestOf
+logic-kept t e = e
+
+pub kept-logic : (t : Lent) → unitRefusal (requestOf t .version) (requestOf t .logic) ≡ 0 → unitRefusal (t .version) (t .logic) ≡ 0
+unfolding requestOf
+kept-logic t e = e
 
 pub unmet : (t : Lent) (place column : ℕ) → checked t ≡ told 0 place column → checked t ≡ answer 0 0
 unmet t place column e = check-law t ∙ met-nothing _ place column (sym (check-law t) ∙ e)
@@ -44,14 +53,16 @@ unmet t place column e = check-law t ∙ met-nothing _ place column (sym (check-
 pub checked-fine : (t : Lent) → checked t ≡ answer 0 0 → Fine t
 checked-fine t e =
     let a = met-first _ _ _ (sym (check-law t) ∙ e) in
-    let b = met-apart (lineAnswers (requestOf t)) _ (a .two) in
+    let u = met-first _ _ _ (a .two) in
+    let b = met-apart (lineAnswers (requestOf t)) _ (u .two) in
     let c = met-first _ _ _ (b .two) in
-    record { room = demand-met _ 12 0 (a .one) .0; unrefused = lines-unrefused (requestOf t) (b .one); past = demand-met _ 2 0 (c .one) .0 }
+    record { room = demand-met _ 12 0 (a .one) .0; unrefused = lines-unrefused (requestOf t) (logic-kept t (u .one)) (b .one); past = demand-met _ 2 0 (c .one) .0 }
 
 pub fine-checked : (t : Lent) → Fine t → checked t ≡ answer 0 0
 fine-checked t g =
     check-law t ∙
     passes _ _ _ (demand-passes _ 13 0 (g .room)) ∙
+    passes _ _ _ (kept-logic t (g .unrefused .logic)) ∙
     passes-all _ _ (unrefused-lines (requestOf t) (g .unrefused)) ∙
     passes _ _ _ (demand-passes _ 3 0 (g .past)) ∙
     nothing-met

@@ -9,7 +9,7 @@ use lib.Dec.{eqb, leb}
 use lib.ListN.{length}
 use borrow.Author.Tests.{eqb-true, eq-eqb, not-true, leb-true}
 use Rattle.scope.specs.Logic.Form.{both}
-use Rattle.scope.specs.File.Kinds.{Kind, kindIn, same, kindFrom, formKinds, stepKinds}
+use Rattle.scope.specs.File.Kinds.{Kind, kindIn, same, kindFrom, formKinds, stepKinds, logicKinds}
 use Rattle.scope.specs.Tools.Tests.{never, both-true, both-met}
 use Rattle.trip.specs.Cuts.{free}
 
@@ -131,3 +131,7 @@ form-kinds-neat = record { apart = refl; each = refl }
 pub step-kinds-neat : Neat stepKinds
 unfolding apart everyKind neat stepKinds
 step-kinds-neat = record { apart = refl; each = refl }
+
+pub logic-kinds-neat : Neat logicKinds
+unfolding apart everyKind neat logicKinds
+logic-kinds-neat = record { apart = refl; each = refl }

@@ -26,6 +26,7 @@ pub data LineAlike (q r : Request) (i : ℕ) : Type 0 where
 
 -- Formulas are compared by what they mean: their numbers may differ, and so may the formulas that an unused line alone needs.
 pub record Alike (q r : Request) : Type 0 where
+  pub logic : q .logic ≡ r .logic
   pub principals : q .principals ≡ r .principals
   pub atoms : q .atoms ≡ r .atoms
   pub count : length (q .policy) ≡ length (r .policy)

@@ -5,6 +5,7 @@ use mathlib.Core.Path.{_≡_, refl, sym, _∙_}
 use mathlib.Core.List.{List, [], _∷_}
 use native.Mathlib.Omega.{arith}
 use Rattle.scope.specs.Call.Answer.{answer}
+use Rattle.scope.specs.Logic.Facts.{plain}
 use Rattle.scope.specs.File.Request.{Row, Request}
 use Rattle.scope.specs.Logic.Form.{isSf}
 use Rattle.scope.specs.Call.Judge.{goalOf, stepsOf, stepsAnswer}
@@ -18,6 +19,8 @@ row k l r = record { kind = k; left = l; right = r }
 abbrev p1 : List Row → List ℕ → ℕ → Request
 p1 forms lines goal =
     record {
+      version = 1;
+      logic = plain;
       principals = 2;
       atoms = 1;
       forms = forms;
@@ -52,7 +55,7 @@ line (suc (suc (suc (suc i)))) b = absurd (omega arith)
 
 pub ours-theirs : Alike ours theirs
 unfolding goalOf stepsOf
-ours-theirs = record { principals = refl; atoms = refl; count = refl; policy = line; goal = refl; steps = refl }
+ours-theirs = record { logic = refl; principals = refl; atoms = refl; count = refl; policy = line; goal = refl; steps = refl }
 
 pub ours-granted : stepsAnswer ours ≡ answer 0 0
 unfolding stepsAnswer

@@ -10,7 +10,7 @@ use native.Mathlib.Omega.{arith}
 use Rattle.scope.specs.Tools.Tests.{never}
 use Rattle.scope.specs.Logic.Form as F
 use Rattle.scope.specs.Logic.Form.{Form, top, isSf}
-use Rattle.scope.specs.Logic.Facts.{Fact}
+use Rattle.scope.specs.Logic.Facts.{Fact, Logic}
 use Rattle.scope.specs.File.Request.{Request, formula}
 use Rattle.scope.specs.Logic.Obligation.{Lab, lab, factOf, rootFacts, start}
 use Rattle.scope.specs.Call.Judge.{policyOf, goalOf, stepsOf, startOf}
@@ -62,10 +62,10 @@ clause-same (f ∷ fs) [] i e h = absurd (omega arith)
 clause-same (f ∷ fs) (g ∷ gs) zero e h = ap (λ (k : Form). some (lab k 0)) (h (omega arith))
 clause-same (f ∷ fs) (g ∷ gs) (suc i) e h = clause-same fs gs i (omega arith) (λ b. h (omega arith))
 
-start-twins : (used : ℕ → Type 0) (k : ℕ) (fs gs : List Form) (g : Form) → rootFacts fs ≡ rootFacts gs →
-    Shared used (atRoot fs) (atRoot gs) → Twins used (start k fs g ∷ []) (start k gs g ∷ [])
+start-twins : (used : ℕ → Type 0) (l : Logic) (k : ℕ) (fs gs : List Form) (g : Form) → rootFacts fs ≡ rootFacts gs →
+    Shared used (atRoot fs) (atRoot gs) → Twins used (start l k fs g ∷ []) (start l k gs g ∷ [])
 unfolding start
-start-twins used k fs gs g e a = rw (← e) (twin a none)
+start-twins used l k fs gs g e a = rw (← e) (twin a none)
 
 policy-count : (q : Request) → length (policyOf q) ≡ length (q .policy)
 unfolding policyOf
@@ -74,8 +74,8 @@ policy-count q = length-map (q .policy) (formula (q .forms))
 pub starts-alike : (q r : Request) → Alike q r → Twins (λ i. Used i (stepsOf q)) (startOf q ∷ []) (startOf r ∷ [])
 unfolding startOf policyLine
 starts-alike q r a =
-    rw (← a .principals, ← a .goal)
-    (start-twins (λ i. Used i (stepsOf q)) (q .principals) (policyOf q) (policyOf r) (goalOf q) facts clauses)
+    rw (← a .logic, ← a .principals, ← a .goal)
+    (start-twins (λ i. Used i (stepsOf q)) (q .logic) (q .principals) (policyOf q) (policyOf r) (goalOf q) facts clauses)
   where
     long : length (policyOf q) ≡ length (policyOf r)
     long = policy-count q ∙ a .count ∙ sym (policy-count r)

@@ -7,7 +7,7 @@ use mathlib.Core.Bool.{true, false}
 use mathlib.Core.List.{List, [], _∷_, _++_}
 use lib.Dec.{eqb}
 use lib.ListN.{length}
-use Rattle.scope.specs.Logic.Facts.{Fact}
+use Rattle.scope.specs.Logic.Facts.{Fact, isUnit}
 use Rattle.scope.specs.Call.Answer.{answer}
 use Rattle.scope.specs.Logic.Obligation.{Obligation}
 use Rattle.scope.specs.Logic.Room.{within}
@@ -24,7 +24,7 @@ use Rattle.moves.specs.declared.Judged.{Judged}
 use Rattle.moves.specs.declared.Judged.the-variants.{Fits}
 use Rattle.steps.specs.Steps.{stepIs}
 use Rattle.machine.specs.Machine.{State, begun, stepIn, judgedNow, moved}
-use Rattle.walks.specs.Trees.{Reading}
+use Rattle.walks.specs.Trees.{Reading, unitOf}
 use Rattle.walks.specs.Passed.{Passed, unrefused-passed}
 use Rattle.walks.specs.Readable.{readingOf}
 use Rattle.walks.specs.Related.{Related, now-open}
@@ -36,7 +36,7 @@ use Rattle.walks.specs.Simulation.{begins}
 pub data MachineAt (t : Lent) : ℕ → State → Type 0 where
   begin : MachineAt t 0 (begun (t .formTable) (t .policyTable) (t .policy) (t .goal))
   make : {i : ℕ} {s : State} {m : Move} → MachineAt t i s → eqb (s .opened) 0 ≡ false →
-      judgedNow (t .formTable) s (stepIn (t .stepTable) i) ≡ Fits m → MachineAt t (suc i) (moved s m)
+      judgedNow (t .formTable) s (stepIn (t .stepTable) i) ≡ Fits m → MachineAt t (suc i) (moved (isUnit (t .logic)) s m)
 
 -- The walk's open obligations after the same steps: each went on to others, within the limits.
 pub data WalkAt (t : Lent) : ℕ → List Obligation → Type 0 where
@@ -54,14 +54,14 @@ related-same {T} (now-open {ls} frame down rests waits) f aimed = told-has T ls 
 
 -- A step that the machine makes the walk goes on with,
 walk-too : {T : Reading} {s : State} {waiting : List Obligation} {j : Judged} {on : Onward} → Match T s waiting j on → (m : Move) →
-    j ≡ Fits m → (new : List Obligation) × (on ≡ onto new) × (within (length waiting) new ≡ true) × Related T (moved s m) (new ++ waiting)
+    j ≡ Fits m → (new : List Obligation) × (on ≡ onto new) × (within (length waiting) new ≡ true) × Related T (moved (unitOf T) s m) (new ++ waiting)
 walk-too no-fit m e = never cc
 walk-too (no-room w) m e = never cc
 walk-too (fits {m = k} {os} w r) m e = let a : k ≡ m = cc in (os, refl, w, rw a at r)
 
 -- and a step that the walk goes on with the machine makes.
 machine-too : {T : Reading} {s : State} {waiting : List Obligation} {j : Judged} {on : Onward} → Match T s waiting j on →
-    (new : List Obligation) → on ≡ onto new → within (length waiting) new ≡ true → (m : Move) × (j ≡ Fits m) × Related T (moved s m) (new ++ waiting)
+    (new : List Obligation) → on ≡ onto new → within (length waiting) new ≡ true → (m : Move) × (j ≡ Fits m) × Related T (moved (unitOf T) s m) (new ++ waiting)
 machine-too no-fit new e w = never cc
 machine-too (no-room {os} v) new e w = let a : os ≡ new = cc in never cc
 machine-too (fits {m} {os} v r) new e w = let a : os ≡ new = cc in (m, refl, rw a at r)
@@ -74,7 +74,7 @@ module _ (t : Lent) (p : Passed t) where
   machine-walks begin = (startOf (requestOf t) ∷ [], start, begins t p)
   machine-walks (make {i} {s} {m} a some e) = on (machine-walks a .0) (machine-walks a .1) (machine-walks a .2)
     where
-      on : (os : List Obligation) → WalkAt t i os → Related T s os → (os : List Obligation) × WalkAt t (suc i) os × Related T (moved s m) os
+      on : (os : List Obligation) → WalkAt t i os → Related T s os → (os : List Obligation) × WalkAt t (suc i) os × Related T (moved (unitOf T) s m) os
       on [] w r = let z = none-open r in never cc
       on (o ∷ waiting) w r =
           let h = walk-too (stepped r (stepIn (t .stepTable) i)) m e in (h .0 ++ waiting, go-on w (h .1) (h .2), h .3)
@@ -84,7 +84,7 @@ module _ (t : Lent) (p : Passed t) where
   walk-machine (go-on {i} {o} {new} {waiting} w e v) =
       let h = walk-machine w in
       let g = machine-too (stepped (h .2) (stepIn (t .stepTable) i)) new e v in
-      (moved (h .0) (g .0), make (h .1) (some-open (h .2)) (g .1), g .2)
+      (moved (unitOf T) (h .0) (g .0), make (h .1) (some-open (h .2)) (g .1), g .2)
 
 pub kept-afresh : (t : Lent) → checked t ≡ answer 0 0 → {i : ℕ} {s : State} → MachineAt t i s → eqb (s .opened) 0 ≡ false →
     (o : Obligation) × (waiting : List Obligation) × WalkAt t i (o ∷ waiting) × Afresh s o

@@ -127,7 +127,7 @@ module _ (T : Reading) (lines nums : List ℕ) (count : ℕ) (long : length nums
       lines-kept i (omega arith) (lineNoted (T .table) (getD lines i 0) rows) now
 
   pub begun-related : (goal : ℕ) → goal < T .formulas →
-      Related T (begun (T .table) lines count goal) (start (T .principals) policy (T .tree goal) ∷ [])
+      Related T (begun (T .table) lines count goal) (start (T .logic) (T .principals) policy (T .tree goal) ∷ [])
   unfolding begun first start entryAt downFrom metIn rootFacts
   begun-related goal h =
       let some : 0 < 1 = omega arith in

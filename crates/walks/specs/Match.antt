@@ -22,13 +22,13 @@ use Rattle.moves.specs.declared.Judged.the-variants.{Fits, No}
 use Rattle.moves.specs.declared.Move as M
 use Rattle.moves.specs.Steps.{pick, pushedKind}
 use Rattle.machine.specs.Machine.{State, moved}
-use Rattle.walks.specs.Trees.{Means, byMeans, Reading}
+use Rattle.walks.specs.Trees.{Means, byMeans, Reading, unitOf}
 use Rattle.walks.specs.Related.{Related, sheetOf, seq}
 
 pub data Match (T : Reading) (s : State) (waiting : List Obligation) : Judged → Onward → Type 0 where
   no-fit : {k : ℕ} → Match T s waiting (No k) (refuse k)
   no-room : {os : List Obligation} → within (length waiting) os ≡ false → Match T s waiting (No 10) (onto os)
-  fits : {m : M.Move} {os : List Obligation} → within (length waiting) os ≡ true → Related T (moved s m) (os ++ waiting) →
+  fits : {m : M.Move} {os : List Obligation} → within (length waiting) os ≡ true → Related T (moved (unitOf T) s m) (os ++ waiting) →
       Match T s waiting (Fits m) (onto os)
 
 -- Two tests that are true alike.

@@ -3,6 +3,7 @@
 -- one below is current and its saved rows are put back.
 use Prim.Native.Nat.{ℕ, zero, suc, _+_, _-_, _*_, _<_, _≤_}
 use mathlib.Core.Path.{_≡_, refl, sym, ap, _∙_}
+use mathlib.Core.Bool.{Bool}
 use mathlib.Core.List.{List, [], _∷_, _++_}
 use native.Mathlib.Omega.{arith}
 use native.Mathlib.Numerals.{add-one}
@@ -23,7 +24,7 @@ use Rattle.machine.specs.declared.Obligation as E
 use Rattle.machine.specs.Change.{chunkCount, goalIn, changeOf}
 use Rattle.machine.specs.Tables.{block, putBlock, topChunk, chunksAfter, savedAfter, rowsAfter}
 use Rattle.machine.specs.Machine.{Stack, nothing, obligationAt, moved}
-use Rattle.walks.specs.Trees.{Reading}
+use Rattle.walks.specs.Trees.{Reading, unitOf}
 use Rattle.walks.specs.Blocks.{block-length, block-put, put-length, same-self, same-put}
 use Rattle.machine.specs.Turn.{stateOf}
 use Rattle.walks.specs.Related.{StackEntry, headOf, entry, entryAt, downFrom, Rests, at-goal, at-chunks, Stands, at-rest, Clauses}
@@ -48,10 +49,10 @@ saved-more n rows m saved =
     rw (lt-leb (suc n + 1) (suc n) more) (ap (λ (k : ℕ). putBlock mostPrincipals saved k (sfRows rows (suc m - 1))) (one-less n) ∙
     ap (λ (k : ℕ). putBlock mostPrincipals saved n (sfRows rows k)) (one-less m))
 
-pub moved-at : (rows : List ℕ) (stack : Stack) (n : ℕ) (cl ats : List ℕ) (mv : M.Move) (o : E.Obligation) →
+pub moved-at : (unit : Bool) (rows : List ℕ) (stack : Stack) (n : ℕ) (cl ats : List ℕ) (mv : M.Move) (o : E.Obligation) →
     getD (stack .obligations) n nothing ≡ o →
-    moved (stateOf rows stack (suc n) cl ats) mv ≡
-    stateOf (rowsAfter mv o (getD (stack .obligations) (suc n - 2) nothing) (block mostPrincipals (savedNow rows stack n mv o) (suc n - 2)) rows)
+    moved unit (stateOf rows stack (suc n) cl ats) mv ≡
+    stateOf (rowsAfter unit mv o (getD (stack .obligations) (suc n - 2) nothing) (block mostPrincipals (savedNow rows stack n mv o) (suc n - 2)) rows)
     (record {
       obligations = set (set (stack .obligations) (suc n) (changeOf mv o (suc n) .upper)) n (changeOf mv o (suc n) .lower);
       chunks = chunksAfter mv (chunkCount (o .phase)) n (stack .chunks);
@@ -60,7 +61,7 @@ pub moved-at : (rows : List ℕ) (stack : Stack) (n : ℕ) (cl ats : List ℕ) (
     (changeOf mv o (suc n) .opened) (set cl (o .clauses) (topChunk (stack .chunks) n (o .phase)))
     (set ats (o .clauses) (goalIn (o .phase) .at .0))
 unfolding moved obligationAt
-moved-at rows stack n cl ats mv o top =
+moved-at unit rows stack n cl ats mv o top =
     let h : getD (stack .obligations) (suc n - 1) nothing ≡ o = rw (one-less n) top in
     rw (h, one-less n) refl
 
@@ -83,11 +84,11 @@ module _ {T : Reading} {rows cl ats ch sv : List ℕ} {stack : Stack} {es : List
       changeOf mv now (suc n) ≡
       record { lower = headOf ph′ (suc m′) c′; upper = headOf ph′ (suc m′) c′; opened = suc n } →
       chunksAfter mv (chunkCount ph) n (stack .chunks) ≡ l′ → Wrote n (stack .chunks) l′ ch′ →
-      ((next : E.Obligation) (kept : List ℕ) → rowsAfter mv now next kept rows ≡ rows′) →
+      ((next : E.Obligation) (kept : List ℕ) → rowsAfter (unitOf T) mv now next kept rows ≡ rows′) →
       Clauses T clNow atsNow c′ ls′ → Kept (sheetOf T (suc m′)) fs′ rows′ →
       Stands T (suc m′) ch′ ph′ p′ →
       Waits T rows′ clNow atsNow (suc m′) c′ es (metIn (seq T (suc m′) fs′ ls′) p′ ++ waiting) →
-      Related T (moved (stateOf rows stack (suc n) cl ats) mv) (ob (seq T (suc m′) fs′ ls′) p′ ∷ waiting)
+      Related T (moved (unitOf T) (stateOf rows stack (suc n) cl ats) mv) (ob (seq T (suc m′) fs′ ls′) p′ ∷ waiting)
   moved-alone mv {l′} {ph′} {m′} {c′} {ch′} change chunks wrote after clauses kept stands waits =
       let o : E.Obligation = headOf ph′ (suc m′) c′ in
       let os : List E.Obligation = stack .obligations in
@@ -95,7 +96,7 @@ module _ {T : Reading} {rows cl ats ch sv : List ℕ} {stack : Stack} {es : List
       let long : n < length (set os (suc n) o) = rw length-set (omega (arith, frame .stack-size .obligations, frame .room)) in
       let low : suc n ≤ suc n = omega arith in
       rw (
-        moved-at rows stack n cl ats mv now (head-is stack n (frame .on-top)),
+        moved-at (unitOf T) rows stack n cl ats mv now (head-is stack n (frame .on-top)),
         change,
         after,
         chunks,
@@ -124,10 +125,10 @@ module _ {T : Reading} {rows cl ats ch sv : List ℕ} {stack : Stack} {es : List
       changeOf mv now (suc n) ≡
       record { lower = headOf phl (suc m) c; upper = headOf phu (suc m) c; opened = suc n + 1 } →
       chunksAfter mv (chunkCount ph) n (stack .chunks) ≡ l′ → Wrote n (stack .chunks) l′ chl → block mostChunks l′ (suc n) ≡ chu →
-      ((next : E.Obligation) (kept : List ℕ) → rowsAfter mv now next kept rows ≡ rows) →
+      ((next : E.Obligation) (kept : List ℕ) → rowsAfter (unitOf T) mv now next kept rows ≡ rows) →
       suc n < mostOpen → Stands T (suc m) chu phu pu → Rests T (suc m) chl phl pl →
       Waits T rows cl ats (suc m) c es os → metIn (seq T (suc m) fs ls) pu ++ waiting ≡ ob (seq T (suc m) fs ls) pl ∷ os →
-      Related T (moved (stateOf rows stack (suc n) cl ats) mv) (ob (seq T (suc m) fs ls) pu ∷ waiting)
+      Related T (moved (unitOf T) (stateOf rows stack (suc n) cl ats) mv) (ob (seq T (suc m) fs ls) pu ∷ waiting)
   unfolding downFrom
   moved-fork mv {l′} {phu} {phl} {chu} {chl} {pu} {pl} {waiting} {os} change chunks wrote above after room stands rests waits split =
       let upper : E.Obligation = headOf phu (suc m) c in
@@ -154,7 +155,7 @@ module _ {T : Reading} {rows cl ats ch sv : List ℕ} {stack : Stack} {es : List
       (clauses-set c topNow (goalIn ph .at .0) low (frame .clauses)) (frame .kept) (agree-self (suc m) rows) refl
       (waits-set c topNow (goalIn ph .at .0) low waits)) in
       rw (
-        moved-at rows stack n cl ats mv now (head-is stack n (frame .on-top)),
+        moved-at (unitOf T) rows stack n cl ats mv now (head-is stack n (frame .on-top)),
         change,
         after,
         chunks,
@@ -194,10 +195,10 @@ two-less n = omega arith
 pub moved-close : {T : Reading} {rows cl ats ch sv : List ℕ} {stack : Stack} {es : List StackEntry} {n m c : ℕ} {ph : D.Phase}
     {fs : List Fact} {ls : List Lab} {os : List Obligation} →
     Standing T rows stack n cl ats ph m c ch sv fs ls → downFrom stack n ≡ es → Waits T rows cl ats (suc m) c es os →
-    Related T (moved (stateOf rows stack (suc n) cl ats) move.Close) os
+    Related T (moved (unitOf T) (stateOf rows stack (suc n) cl ats) move.Close) os
 unfolding downFrom changeOf rowsAfter chunksAfter
-moved-close {rows} {cl} {ats} {ch} {sv} {stack} {n = zero} {m} {c} {ph} frame down none-waits =
-    rw (moved-at rows stack 0 cl ats move.Close (headOf ph (suc m) c) (head-is stack 0 (frame .on-top))) all-closed
+moved-close {T} {rows} {cl} {ats} {ch} {sv} {stack} {n = zero} {m} {c} {ph} frame down none-waits =
+    rw (moved-at (unitOf T) rows stack 0 cl ats move.Close (headOf ph (suc m) c) (head-is stack 0 (frame .on-top))) all-closed
 moved-close {n = suc n} frame down none-waits = never cc
 moved-close {n = zero} frame down (one-waits less fewer rests size clauses kept agree saved more) = never cc
 moved-close {T} {rows} {cl} {ats} {ch} {sv} {stack} {n = suc n} {m} {c} {ph} frame down
@@ -218,7 +219,7 @@ moved-close {T} {rows} {cl} {ats} {ch} {sv} {stack} {n = suc n} {m} {c} {ph} fra
     ap (λ (k : ℕ). getD obs k nothing) (two-less n) ∙ head-is stack n top in
     let put : block mostPrincipals (stack .saved) (suc (suc n) - 2) ≡ sfRows r i =
     ap (block mostPrincipals (stack .saved)) (two-less n) ∙ saved-is stack n top ∙ saved in
-    let after : rowsAfter move.Close o (getD obs (suc (suc n) - 2) nothing) (block mostPrincipals (stack .saved) (suc (suc n) - 2)) rows ≡
+    let after : rowsAfter (unitOf T) move.Close o (getD obs (suc (suc n) - 2) nothing) (block mostPrincipals (stack .saved) (suc (suc n) - 2)) rows ≡
     putSf rows i (sfRows r i) =
     ap (λ (x : E.Obligation). putSf rows (x .worlds - 1) (block mostPrincipals (stack .saved) (suc (suc n) - 2))) next ∙
     ap (putSf rows (suc i - 1)) put ∙ ap (λ (k : ℕ). putSf rows k (sfRows r i)) (one-less i) in
@@ -227,7 +228,7 @@ moved-close {T} {rows} {cl} {ats} {ch} {sv} {stack} {n = suc n} {m} {c} {ph} fra
     rw (rests-met (seq T (suc i) fs′ ls′) rests)
     (waits-set c x y fewer (waits-rows (agree-put (suc i) i rows (sfRows r i) same) more)) in
     let under = under-two stack (suc n) o o (same-self mostChunks (suc n) (stack .chunks)) (same-self mostPrincipals (suc n) (stack .saved)) in
-    rw (moved-at rows stack (suc n) cl ats move.Close o (head-is stack (suc n) (frame .on-top)), keep, after, one-less (suc n))
+    rw (moved-at (unitOf T) rows stack (suc n) cl ats move.Close o (head-is stack (suc n) (frame .on-top)), keep, after, one-less (suc n))
     (now-open {stack = st}
     (record {
       stack-size =

@@ -24,7 +24,7 @@ use Rattle.machine.specs.Change as numbers
 use Rattle.machine.specs.Change.{goalIn, changeOf}
 use Rattle.machine.specs.Tables.{places, topChunk, splitChunks, caseChunks, chunksAfter, rowsAfter}
 use Rattle.machine.specs.Machine.{Stack, State, moved}
-use Rattle.walks.specs.Trees.{Reading}
+use Rattle.walks.specs.Trees.{Reading, unitOf}
 use Rattle.facts.specs.Grown.{kept-le, kept-by, agree-le, agree-by}
 use Rattle.facts.specs.Noted.{kept-note, agree-note}
 use Rattle.machine.specs.Turn.{stateOf}
@@ -51,7 +51,7 @@ module _ {T : Reading} {rows cl ats ch sv : List ℕ} {stack : Stack} {es : List
 
   pub moved-go : {g t u : ℕ} {waiting : List Obligation} → goalIn ph ≡ numbers.lab t u → g < T .formulas → u < suc m →
       Waits T rows cl ats (suc m) c es waiting →
-      Related T (moved (stateOf rows stack (suc n) cl ats) (move.Go g)) (ob (seq T (suc m) fs ls) (goal (lab (T .tree g) u)) ∷ waiting)
+      Related T (moved (unitOf T) (stateOf rows stack (suc n) cl ats) (move.Go g)) (ob (seq T (suc m) fs ls) (goal (lab (T .tree g) u)) ∷ waiting)
   unfolding changeOf chunksAfter rowsAfter numbers.here metIn
   moved-go {g} {t} {u} at p inside waits =
       moved-alone frame down (move.Go g) {ph′ = phase.Goal (numbers.lab g u)} (rw at refl) refl (wrote-none frame) (λ next kept. refl)
@@ -60,7 +60,7 @@ module _ {T : Reading} {rows cl ats ch sv : List ℕ} {stack : Stack} {es : List
   pub moved-aim : {g v w q : ℕ} {met : List Lab} {waiting : List Obligation} (t : ℕ) → goalIn ph ≡ numbers.lab t w → g < T .formulas →
       w < suc m → q ≡ rowAt (T .table) t .left → (d : Lab) →
       Waits T rows cl ats (suc m) c es (metIn (seq T (suc m) fs ls) (focus d q w met) ++ waiting) →
-      Related T (moved (stateOf rows stack (suc n) cl ats) (move.Aim g (numbers.world v)))
+      Related T (moved (unitOf T) (stateOf rows stack (suc n) cl ats) (move.Aim g (numbers.world v)))
       (ob (seq T (suc m) fs ls) (focus (lab (T .tree g) v) q w met) ∷ waiting)
   unfolding changeOf chunksAfter rowsAfter numbers.aimed metIn
   moved-aim {g} {v} {w} t at p aimed same d waits =
@@ -69,7 +69,7 @@ module _ {T : Reading} {rows cl ats ch sv : List ℕ} {stack : Stack} {es : List
 
   pub moved-both : {f h t u : ℕ} {waiting : List Obligation} → goalIn ph ≡ numbers.lab t u → f < T .formulas → h < T .formulas →
       u < suc m → suc n < mostOpen → Waits T rows cl ats (suc m) c es waiting →
-      Related T (moved (stateOf rows stack (suc n) cl ats) (move.Both f h))
+      Related T (moved (unitOf T) (stateOf rows stack (suc n) cl ats) (move.Both f h))
       (ob (seq T (suc m) fs ls) (goal (lab (T .tree f) u)) ∷ ob (seq T (suc m) fs ls) (goal (lab (T .tree h) u)) ∷ waiting)
   unfolding changeOf chunksAfter rowsAfter numbers.here metIn
   moved-both {f} {h} {t} {u} at p q inside room waits =
@@ -79,7 +79,7 @@ module _ {T : Reading} {rows cl ats ch sv : List ℕ} {stack : Stack} {es : List
   pub moved-meet : {g h v w q : ℕ} {met : List Lab} {waiting : List Obligation} (t : ℕ) → goalIn ph ≡ numbers.lab t w → g < T .formulas →
       h < T .formulas → v < suc m → w < suc m → q ≡ rowAt (T .table) t .left → suc n < mostOpen → (d : Lab) →
       Waits T rows cl ats (suc m) c es (metIn (seq T (suc m) fs ls) (focus d q w met) ++ waiting) →
-      Related T (moved (stateOf rows stack (suc n) cl ats) (move.Meet g h (numbers.world v)))
+      Related T (moved (unitOf T) (stateOf rows stack (suc n) cl ats) (move.Meet g h (numbers.world v)))
       (ob (seq T (suc m) fs ls) (focus (lab (T .tree h) v) q w (lab (T .tree g) v ∷ met)) ∷ waiting)
   unfolding changeOf chunksAfter rowsAfter numbers.aimed metIn
   moved-meet {g} {h} {v} {w} t at p r inside aimed same room d waits =
@@ -92,7 +92,7 @@ module _ {T : Reading} {rows cl ats ch sv : List ℕ} {stack : Stack} {es : List
     {ls : List Lab} (frame : Standing T rows stack n cl ats (phase.Goal (numbers.lab t u)) m c ch sv fs ls) (down : downFrom stack n ≡ es)
     (inside : u < suc m) (room : suc m < mostWorlds) {waiting : List Obligation} (waits : Waits T rows cl ats (suc m) c es waiting) where
   pub moved-less : {f h : ℕ} → f < T .formulas → h < T .formulas →
-      Related T (moved (stateOf rows stack (suc n) cl ats) (move.Less f h))
+      Related T (moved (unitOf T) (stateOf rows stack (suc n) cl ats) (move.Less f h))
       (ob (seq T (suc (suc m)) (le u (suc m) ∷ fs) ls) (chunks (T .tree f) [] (lab (T .tree h) (suc m))) ∷ waiting)
   unfolding changeOf chunksAfter rowsAfter goalIn metIn chunksOf numbers.newWorld
   moved-less {f} {h} p q =
@@ -115,7 +115,7 @@ module _ {T : Reading} {rows cl ats ch sv : List ℕ} {stack : Stack} {es : List
       (waits-set c x u low (waits-wider more low (waits-rows (agree-le (suc m) u (suc m) rows old) waits)))
 
   pub moved-speak : {a f : ℕ} → a < T .principals → f < T .formulas →
-      Related T (moved (stateOf rows stack (suc n) cl ats) (move.Speak (principal a) f))
+      Related T (moved (unitOf T) (stateOf rows stack (suc n) cl ats) (move.Speak (principal a) f))
       (ob (seq T (suc (suc m)) (by a u (suc m) ∷ fs) ls) (goal (lab (T .tree f) (suc m))) ∷ waiting)
   unfolding changeOf chunksAfter rowsAfter goalIn metIn numbers.newWorld
   moved-speak {a} {f} p q =
@@ -126,7 +126,7 @@ module _ {T : Reading} {rows cl ats ch sv : List ℕ} {stack : Stack} {es : List
       let x : ℕ = topChunk (stack .chunks) n (phase.Goal (numbers.lab t u)) in
       moved-alone frame down (move.Speak (principal a) f) (rw add-one refl) refl (wrote-none frame) (λ next kept. refl)
       (clauses-set c x u low (frame .clauses)) (kept-by (frame .kept) p inside room) (at-rest (at-goal q inner))
-      (waits-set c x u low (waits-wider more low (waits-rows (agree-by (suc m) a u (suc m) rows old) waits)))
+      (waits-set c x u low (waits-wider more low (waits-rows (agree-by (suc m) (unitOf T) a u (suc m) rows old) waits)))
 
 -- Of chunks: the topmost one is number i of the array.
 module _ {T : Reading} {rows cl ats ch sv : List ℕ} {stack : Stack} {es : List StackEntry} {n m c t u i : ℕ} {fs : List Fact}
@@ -165,7 +165,7 @@ module _ {T : Reading} {rows cl ats ch sv : List ℕ} {stack : Stack} {es : List
       Rests T (suc m) held (phase.Chunks goalLab (suc j)) (chunks f fs aim)
   chunks-are j held f fs e q r = rw (e, q) at r
 
-  pub moved-drop : Related T (moved now move.Drop)
+  pub moved-drop : Related T (moved (unitOf T) now move.Drop)
       (ob here (behind rest aim) ∷ waiting)
   unfolding changeOf chunksAfter rowsAfter numbers.popped numbers.chunkCount goalIn
   moved-drop =
@@ -178,7 +178,7 @@ module _ {T : Reading} {rows cl ats ch sv : List ℕ} {stack : Stack} {es : List
       (waits-on here (behind rest aim) rests (waits-set c x u low waits))
 
   pub moved-note : {a b : ℕ} → a < T .principals → b < T .principals →
-      Related T (moved now (move.Note (principal a) (principal b)))
+      Related T (moved (unitOf T) now (move.Note (principal a) (principal b)))
       (ob (seq T (suc m) (sf u a b ∷ fs) ls) (behind rest aim) ∷ waiting)
   unfolding changeOf chunksAfter rowsAfter numbers.popped numbers.chunkCount goalIn
   moved-note {a} {b} p q =
@@ -197,7 +197,7 @@ module _ {T : Reading} {rows cl ats ch sv : List ℕ} {stack : Stack} {es : List
       (waits-set c x u low (waits-rows (agree-note (suc m) m a b rows old) waits)))
 
   pub moved-push : c < mostClauses →
-      Related T (moved now move.Push)
+      Related T (moved (unitOf T) now move.Push)
       (ob (seq T (suc m) fs (ls ++ (lab (T .tree (getD ch i 0)) u ∷ []))) (behind rest aim) ∷ waiting)
   unfolding changeOf chunksAfter rowsAfter numbers.popped numbers.chunkCount goalIn
   moved-push room =
@@ -218,7 +218,7 @@ module _ {T : Reading} {rows cl ats ch sv : List ℕ} {stack : Stack} {es : List
       (waits-wider old up (waits-set c x u low waits)))
 
   pub moved-split : {f h : ℕ} → f < T .formulas → h < T .formulas → suc i < mostChunks →
-      Related T (moved now (move.Split f h)) (ob here (chunks (T .tree f) (T .tree h ∷ rest) aim) ∷ waiting)
+      Related T (moved (unitOf T) now (move.Split f h)) (ob here (chunks (T .tree f) (T .tree h ∷ rest) aim) ∷ waiting)
   unfolding changeOf chunksAfter splitChunks rowsAfter numbers.oneMore numbers.chunkCount goalIn chunksOf metIn
   moved-split {f} {h} p q room =
       let low : c ≤ c = omega arith in
@@ -252,7 +252,7 @@ module _ {T : Reading} {rows cl ats ch sv : List ℕ} {stack : Stack} {es : List
       (at-chunks named newest few (below-more f long p (below-less less known)))
 
   pub moved-case : {f h : ℕ} → f < T .formulas → h < T .formulas → suc n < mostOpen →
-      Related T (moved now (move.Case f h)) (ob here (chunks (T .tree f) rest aim) ∷ ob here (chunks (T .tree h) rest aim) ∷ waiting)
+      Related T (moved (unitOf T) now (move.Case f h)) (ob here (chunks (T .tree f) rest aim) ∷ ob here (chunks (T .tree h) rest aim) ∷ waiting)
   unfolding changeOf chunksAfter caseChunks rowsAfter numbers.chunkCount metIn
   moved-case {f} {h} p q room =
       let inner : n < places = omega (arith, frame .room) in

@@ -25,7 +25,7 @@ use Rattle.machine.specs.declared.Obligation as E
 use Rattle.machine.specs.declared.Walked.{Walked}
 use Rattle.machine.specs.Tables.{topChunk}
 use Rattle.machine.specs.Machine.{Stack, State, nothing, obligationAt, stepIn, moved, judgedNow, goOn, ranFrom, walkedAnswer}
-use Rattle.walks.specs.Trees.{Reading}
+use Rattle.walks.specs.Trees.{Reading, unitOf}
 use Rattle.machine.specs.Turn.{stateOf}
 use Rattle.walks.specs.Related.{StackEntry, headOf, downFrom, at-goal, at-chunks, Stands, at-rest, in-focus, seq, Waits, metIn, Standing}
 use Rattle.walks.specs.Related.{Related, all-closed, now-open}
@@ -67,7 +67,7 @@ stepped {T} (now-open {rows} {cl} {ats} {ch} {sv} {stack} {n} {m} {c} {ph} frame
 -- What follows a step.
 after-match : {T : Reading} {s : State} {waiting : List Obligation} {j : Judged} {mv : Onward} → Match T s waiting j mv →
     (i : ℕ) (next : M.Move → Walked) (go : List Obligation → Answer) →
-    ((m : M.Move) (os : List Obligation) → Related T (moved s m) os → walkedAnswer (next m) ≡ go os) →
+    ((m : M.Move) (os : List Obligation) → Related T (moved (unitOf T) s m) os → walkedAnswer (next m) ≡ go os) →
     walkedAnswer (goOn j i next) ≡ after within i waiting mv go
 unfolding walkedAnswer goOn after
 after-match no-fit i next go same = rw add-one refl
@@ -86,13 +86,13 @@ stepsFrom steps zero i = []
 stepsFrom steps (suc n) i = stepIs (stepIn steps i) ∷ stepsFrom steps n (suc i)
 
 pub ran-from : {T : Reading} (steps : List ℕ) (n i : ℕ) (s : State) (os : List Obligation) → Related T s os →
-    walkedAnswer (ranFrom (T .table) steps n i s) ≡ walk within i os (stepsFrom steps n i)
+    walkedAnswer (ranFrom (unitOf T) (T .table) steps n i s) ≡ walk within i os (stepsFrom steps n i)
 unfolding ranFrom walk stepsFrom walkedAnswer pick
 ran-from steps zero i s [] r = rw (none-open r) refl
 ran-from steps zero i s (o ∷ waiting) r = rw (some-open r, add-one) refl
 ran-from steps (suc n) i s [] r = rw (none-open r, add-one) refl
 ran-from {T} steps (suc n) i s (o ∷ waiting) r =
     rw (some-open r)
-    (after-match (stepped r (stepIn steps i)) i (λ m. ranFrom (T .table) steps n (i + 1) (moved s m))
+    (after-match (stepped r (stepIn steps i)) i (λ m. ranFrom (unitOf T) (T .table) steps n (i + 1) (moved (unitOf T) s m))
     (λ next. walk within (suc i) next (stepsFrom steps n (suc i)))
-    (λ m os q. rw add-one (ran-from steps n (suc i) (moved s m) os q)))
+    (λ m os q. rw add-one (ran-from steps n (suc i) (moved (unitOf T) s m) os q)))

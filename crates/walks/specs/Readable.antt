@@ -8,7 +8,7 @@ use lib.Seq.{getD-take}
 use Rattle.scope.specs.Logic.Form.{Form, top}
 use Rattle.scope.specs.File.Request.{Row, rowForm, formsAfter, formula}
 use Rattle.scope.specs.File.Kinds.{kindIn, formKinds}
-use Rattle.scope.specs.Call.Tables.{Lent, formEntry, unpack}
+use Rattle.scope.specs.Call.Tables.{Lent, formEntry, unpack, requestOf}
 use Rattle.scope.specs.Tools.Unpack.{unpack-length}
 use Rattle.trip.specs.RowRanges as ranges
 use Rattle.moves.specs.Judge.{rowAt}
@@ -66,6 +66,7 @@ passed-means t p f h =
 abbrev pub readingOf : (t : Lent) → Passed t → Reading
 readingOf t p =
     record {
+      logic = t .logic;
       table = t .formTable;
       principals = t .principals;
       formulas = t .formulas;

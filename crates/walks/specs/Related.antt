@@ -81,7 +81,7 @@ pub record Clauses (T : Reading) (cl ats : List ℕ) (c : ℕ) (ls : List Lab) :
   pub few : c ≤ mostClauses
 
 abbrev pub sheetOf : Reading → ℕ → Sheet
-sheetOf T n = record { worlds = n; principals = T .principals }
+sheetOf T n = record { worlds = n; principals = T .principals; logic = T .logic }
 
 abbrev pub seq : Reading → ℕ → List Fact → List Lab → Sequent
 seq T n fs ls = record { sheet = sheetOf T n; facts = fs; clauses = ls }

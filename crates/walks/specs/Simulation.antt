@@ -2,6 +2,7 @@
 use mathlib.Core.Path.{_≡_, ap, _∙_}
 use mathlib.Core.List.{List, [], _∷_}
 use native.Mathlib.Omega.{arith}
+use Rattle.scope.specs.Logic.Facts.{isUnit}
 use Rattle.scope.specs.Call.Answer.{answer}
 use Rattle.scope.specs.Logic.Obligation.{Step}
 use Rattle.scope.specs.Logic.Room.{within}
@@ -33,7 +34,7 @@ module _ (t : Lent) (p : Passed t) where
   steps-same = steps-are (t .stepTable) (t .steps)
 
 pub ran-walks : (t : Lent) → checked t ≡ answer 0 0 →
-    walkedAnswer (ran (t .formTable) (t .policyTable) (t .stepTable) (t .policy) (t .goal) (t .steps)) ≡ stepsAnswer (requestOf t)
+    walkedAnswer (ran (isUnit (t .logic)) (t .formTable) (t .policyTable) (t .stepTable) (t .policy) (t .goal) (t .steps)) ≡ stepsAnswer (requestOf t)
 unfolding ran stepsAnswer
 ran-walks t e =
     let p = unrefused-passed t (checked-fine t e .unrefused) in

@@ -4,6 +4,7 @@ use mathlib.Core.Path.{_≡_}
 use mathlib.Core.Bool.{false}
 use mathlib.Core.List.{List, _∷_}
 use lib.Dec.{eqb}
+use Rattle.scope.specs.Logic.Facts.{isUnit}
 use Rattle.scope.specs.Call.Answer.{answer}
 use Rattle.scope.specs.Call.Tables.{Lent, requestOf}
 use Rattle.scope.specs.Call.Checked.{checked}
@@ -16,7 +17,7 @@ use Rattle.walks.specs.Afresh.{MachineAt, WalkAt}
 
 -- It answers as document 01's walk does (Simulation).
 pub ran-walks : (t : Lent) → checked t ≡ answer 0 0 →
-    walkedAnswer (ran (t .formTable) (t .policyTable) (t .stepTable) (t .policy) (t .goal) (t .steps)) ≡ stepsAnswer (requestOf t)
+    walkedAnswer (ran (isUnit (t .logic)) (t .formTable) (t .policyTable) (t .stepTable) (t .policy) (t .goal) (t .steps)) ≡ stepsAnswer (requestOf t)
 ran-walks = Simulation.ran-walks
 
 -- At every step its rows tell what closing the current sequent's facts afresh computes: wherever the machine stands with something open, so

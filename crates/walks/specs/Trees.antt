@@ -2,12 +2,14 @@
 -- so of one row with its operands' own trees, `byMeans` goes by its eight kinds, and `Reading` is all that the walk asks of a form table.
 use Prim.Native.Nat.{ℕ, zero, suc, _+_, _<_, _≤_}
 use mathlib.Core.Path.{_≡_, sym, _∙_}
+use mathlib.Core.Bool.{Bool}
 use mathlib.Core.List.{List, [], _∷_, _++_, append-assoc, append-nil}
 use native.Mathlib.Omega.{arith}
 use native.Mathlib.Nat.{add-zero, zero-add}
 use lib.ListN.{length, getD, take, length-append}
 use lib.Seq.{take-append-seam, getD-append-seam}
 use Rattle.scope.specs.Limits.{mostPrincipals}
+use Rattle.scope.specs.Logic.Facts.{Logic, isUnit}
 use Rattle.scope.specs.Logic.Form.{Form, atom, top, bot, and, or, imp, says, sf}
 use Rattle.scope.specs.File.Request.{Row, rowForm, formsAfter, formula}
 use Rattle.moves.specs.Judge.{rowAt}
@@ -43,8 +45,9 @@ byMeans P a b c d e f g h (means-imp {f = i} {g = j} p q) = f i j p q
 byMeans P a b c d e f g h (means-says {a = i} {g = j} p q) = g i j p q
 byMeans P a b c d e f g h (means-sf {a = i} {b = j} p q) = h i j p q
 
--- A form table, the principals and formulas that it counts, and the tree of each formula number.
+-- The logic, a form table, the principals and formulas that it counts, and the tree of each formula number.
 pub record Reading : Type 0 where
+  pub logic : Logic
   pub table : List ℕ
   pub principals : ℕ
   pub formulas : ℕ
@@ -52,6 +55,9 @@ pub record Reading : Type 0 where
   pub few : principals ≤ mostPrincipals
   pub means : (f : ℕ) → f < formulas →
       Means principals formulas tree (rowAt table f .kind) (rowAt table f .left) (rowAt table f .right) (tree f)
+
+abbrev pub unitOf : Reading → Bool
+unitOf T = isUnit (T .logic)
 
 -- The formulas of rows stand behind those before them,
 extends : (fs : List Form) (rs : List Row) → (more : List Form) × (formsAfter fs rs ≡ fs ++ more)

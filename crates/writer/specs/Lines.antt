@@ -6,11 +6,12 @@ use mathlib.Core.List.{List, [], _∷_, _++_, append-assoc, append-nil, map}
 use borrow.Author.Tests.{lt-ltb, le-ltb}
 use lib.ListN.{length, take, getD, set, replicate, List·getD-eq-default}
 use lib.Seq.{take-nil, getD-set-other}
+use Rattle.scope.specs.File.Bytes.{bytes}
 use Rattle.scope.specs.File.Request.{Row}
 use Rattle.scope.specs.File.Number.{digit, numeral}
 use Rattle.scope.specs.File.Line.{Line, lineText}
-use Rattle.scope.specs.File.Kinds.{Kind, kind, kindIn, spaced, rowText, rowShape, formKinds, stepKinds}
-use Rattle.scope.specs.File.Text.{numberShape}
+use Rattle.scope.specs.File.Kinds.{Kind, kind, kindIn, spaced, rowText, rowShape, formKinds, stepKinds, logicOf, logicText}
+use Rattle.scope.specs.File.Text.{numberShape, logicLine}
 use Rattle.writer.specs.Puts.{Puts, puts-none, puts-same}
 
 -- A number's digits, where there are 1 to 5 of them: each place's digit stands in its own byte.
@@ -93,6 +94,16 @@ row-line key ks r =
     let word = kindIn ks (r .kind) .word in
     let rest = operandsText (length (kindIn ks (r .kind) .operands)) (r .left) (r .right) in
     ap (λ (l : List ℕ). l ++ (10 ∷ [])) (append-assoc key word rest ∙ ap (λ (v : List ℕ). key ++ v) (sym (row-text ks r)))
+
+-- The line of each logic.
+pub plain-line : (logic : ℕ) → logic ≡ 0 → bytes "logic=plain\n" ≡ lineText logicLine (logicOf logic)
+unfolding lineText logicText logicOf
+plain-line logic e = rw e refl
+
+pub unit-line : (logic : ℕ) → (logic ≡ 0 → ⊥) → bytes "logic=unit\n" ≡ lineText logicLine (logicOf logic)
+unfolding lineText logicText logicOf
+unit-line zero h = absurd (h refl)
+unit-line (suc logic) h = refl
 
 -- What the last arm of a match is told: the number is none of the keys above it, the last key first.
 abbrev pub NoneOf : List ℕ → ℕ → Type 0

@@ -4,10 +4,12 @@ use native.Mathlib.Numerals.{add-one}
 use native.Mathlib.Omega.{arith}
 use mathlib.Core.Path.{_≡_, refl, ap, sym, _∙_}
 use mathlib.Core.List.{List, [], _∷_, _++_, append-assoc, append-nil}
+use borrow.Author.Tests.{ne-eqb}
 use lib.ListN.{length, take, drop}
+use Rattle.scope.specs.Logic.Facts.{Logic}
 use Rattle.scope.specs.File.Bytes.{joined}
 use Rattle.scope.specs.File.Line.{Line, lineText, manyText, countedText}
-use Rattle.scope.specs.File.Text.{versionLine, principalsLine, atomsLine, formulasLine, formLine, clausesLine, clauseLine, goalLine, stepsLine, stepLine, requestText}
+use Rattle.scope.specs.File.Text.{versionLine, logicLine, logicLines, principalsLine, atomsLine, formulasLine, formLine, clausesLine, clauseLine, goalLine, stepsLine, stepLine, bodyText, requestText}
 use Rattle.scope.specs.Call.Tables.{Lent, Entry, unpack, formEntry, policyEntry, stepEntry, requestOf}
 use Rattle.classes.specs.Rows.{unpack-turn, unpack-length}
 use Rattle.writer.specs.Puts.{Puts, puts-then, puts-same}
@@ -16,8 +18,11 @@ use Rattle.writer.specs.Puts.{Puts, puts-then, puts-same}
 abbrev pub tableText : {A : Type 0} → Line A → Entry A → ℕ → List ℕ → List ℕ
 tableText l e n t = manyText (lineText l) (unpack e n t)
 
-unfoldable pub headText : ℕ → ℕ → List ℕ
-headText principals atoms = (lineText versionLine 1 ++ lineText principalsLine principals) ++ lineText atomsLine atoms
+unfoldable pub versionText : ℕ → Logic → List ℕ
+versionText version logic = lineText versionLine version ++ logicLines version logic
+
+unfoldable pub headText : ℕ → Logic → ℕ → ℕ → List ℕ
+headText version logic principals atoms = (versionText version logic ++ lineText principalsLine principals) ++ lineText atomsLine atoms
 
 unfoldable pub formulasText : ℕ → List ℕ → List ℕ
 formulasText n t = lineText formulasLine n ++ tableText formLine formEntry n t
@@ -27,6 +32,14 @@ policyText n t = lineText clausesLine n ++ tableText clauseLine policyEntry n t
 
 unfoldable pub proofText : ℕ → ℕ → List ℕ → List ℕ
 proofText goal n t = (lineText goalLine goal ++ lineText stepsLine n) ++ tableText stepLine stepEntry n t
+
+pub with-logic : (version : ℕ) (logic : Logic) → version ≡ 2 → lineText versionLine version ++ lineText logicLine logic ≡ versionText version logic
+unfolding versionText logicLines
+with-logic version logic e = rw e refl
+
+pub without-logic : (version : ℕ) (logic : Logic) → (version ≡ 2 → ⊥) → lineText versionLine version ≡ versionText version logic
+unfolding versionText logicLines
+without-logic version logic h = rw (ne-eqb version 2 h) (sym (append-nil (lineText versionLine version)))
 
 many-more : {A : Type 0} (text : A → List ℕ) (xs : List A) (x : A) → manyText text (xs ++ (x ∷ [])) ≡ manyText text xs ++ text x
 unfolding manyText joined
@@ -74,32 +87,35 @@ counted-same : {A : Type 0} (l : Line ℕ) (item : Line A) (e : Entry A) (n : �
 unfolding countedText
 counted-same l item e n t = ap (λ (k : ℕ). lineText l k ++ tableText item e n t) (unpack-length e n t)
 
-regroup : (v p a f c g s z : List ℕ) →
-    ((((v ++ p) ++ a) ++ f) ++ c) ++ ((g ++ s) ++ z) ≡ v ++ (p ++ (a ++ (f ++ (c ++ (g ++ ((s ++ z) ++ []))))))
-regroup v p a f c g s z = simp (append-assoc, append-nil)
+regroup : (v i p a f c g s z : List ℕ) →
+    ((((((v ++ i) ++ p) ++ a) ++ f) ++ c) ++ ((g ++ s) ++ z)) ≡ v ++ (i ++ (p ++ (a ++ (f ++ (c ++ (g ++ ((s ++ z) ++ [])))))))
+regroup v i p a f c g s z = simp (append-assoc, append-nil)
 
 as-joined : (t : Lent) →
     requestText (requestOf t) ≡
+    lineText versionLine (t .version) ++
+    (logicLines (t .version) (t .logic) ++
     joined
-    (lineText versionLine 1 ∷
-    lineText principalsLine (t .principals) ∷
+    (lineText principalsLine (t .principals) ∷
     lineText atomsLine (t .atoms) ∷
     countedText formulasLine formLine (unpack formEntry (t .formulas) (t .formTable)) ∷
     countedText clausesLine clauseLine (unpack policyEntry (t .policy) (t .policyTable)) ∷
     lineText goalLine (t .goal) ∷
     countedText stepsLine stepLine (unpack stepEntry (t .steps) (t .stepTable)) ∷
-    [])
-unfolding requestText requestOf
+    []))
+unfolding requestText bodyText requestOf
 as-joined t = refl
 
 -- The text of what counts and tables say is its four sections.
 pub request-text : (t : Lent) →
-    ((headText (t .principals) (t .atoms) ++ formulasText (t .formulas) (t .formTable)) ++ policyText (t .policy) (t .policyTable)) ++
+    ((headText (t .version) (t .logic) (t .principals) (t .atoms) ++ formulasText (t .formulas) (t .formTable)) ++
+    policyText (t .policy) (t .policyTable)) ++
     proofText (t .goal) (t .steps) (t .stepTable) ≡
     requestText (requestOf t)
-unfolding headText formulasText policyText proofText joined
+unfolding versionText headText formulasText policyText proofText joined
 request-text t =
-    let v = lineText versionLine 1 in
+    let v = lineText versionLine (t .version) in
+    let i = logicLines (t .version) (t .logic) in
     let p = lineText principalsLine (t .principals) in
     let a = lineText atomsLine (t .atoms) in
     let f = countedText formulasLine formLine (unpack formEntry (t .formulas) (t .formTable)) in
@@ -107,10 +123,10 @@ request-text t =
     let g = lineText goalLine (t .goal) in
     let n = lineText stepsLine (t .steps) in
     let z = tableText stepLine stepEntry (t .steps) (t .stepTable) in
-    ap (λ (l : List ℕ). ((((v ++ p) ++ a) ++ l) ++ policyText (t .policy) (t .policyTable)) ++ ((g ++ n) ++ z))
+    ap (λ (l : List ℕ). (((((v ++ i) ++ p) ++ a) ++ l) ++ policyText (t .policy) (t .policyTable)) ++ ((g ++ n) ++ z))
     (sym (counted-same formulasLine formLine formEntry (t .formulas) (t .formTable))) ∙
-    ap (λ (l : List ℕ). ((((v ++ p) ++ a) ++ f) ++ l) ++ ((g ++ n) ++ z)) (sym (counted-same clausesLine clauseLine policyEntry (t .policy) (t .policyTable))) ∙
-    regroup v p a f c g n z ∙
-    ap (λ (l : List ℕ). v ++ (p ++ (a ++ (f ++ (c ++ (g ++ (l ++ [])))))))
+    ap (λ (l : List ℕ). (((((v ++ i) ++ p) ++ a) ++ f) ++ l) ++ ((g ++ n) ++ z)) (sym (counted-same clausesLine clauseLine policyEntry (t .policy) (t .policyTable))) ∙
+    regroup v i p a f c g n z ∙
+    ap (λ (l : List ℕ). v ++ (i ++ (p ++ (a ++ (f ++ (c ++ (g ++ (l ++ []))))))))
     (sym (counted-same stepsLine stepLine stepEntry (t .steps) (t .stepTable))) ∙
     sym (as-joined t)

@@ -5,8 +5,8 @@ ghost use mathlib.Core.Path.{_≡_};
 ghost use Prim.Native.Nat.{_<_, _≤_};
 ghost use lib.ListN.{length};
 ghost use Rattle.scope.specs.File.Line.{lineText};
-ghost use Rattle.scope.specs.File.Kinds.{kindIn, formKinds, stepKinds};
-ghost use Rattle.scope.specs.File.Text.{formLine, stepLine};
+ghost use Rattle.scope.specs.File.Kinds.{kindIn, formKinds, stepKinds, logicOf};
+ghost use Rattle.scope.specs.File.Text.{logicLine, formLine, stepLine};
 ghost use Rattle.writer.specs.Puts.{Puts};
 ghost use Rattle.writer.specs.Lines.{countLine, operandText, operandsText};
 ghost use Rattle.refusals.specs.Rows.{row};
@@ -32,6 +32,17 @@ pub(crate) fn put_count(out: &mut [u8], at: usize, key: &[u8], n: u16) -> usize
     let value = put_bytes(out, at, key);
     let end = put_number(out, value, n);
     put_byte(out, end, 10)
+}
+
+// The line of the logic.
+pub(crate) fn put_logic(out: &mut [u8], at: usize, logic: u16) -> usize
+    requires { ⌜ at < 9980000 ⌝ }
+    ensures { λ r. ⌜ Puts (now (out .entry)) at (lineText logicLine (logicOf logic)) 16 (now (out .exit)) r ⌝ }
+{
+    if logic == 0 {
+        return put_bytes(out, at, b"logic=plain\n");
+    }
+    put_bytes(out, at, b"logic=unit\n")
 }
 
 fn put_form_word(out: &mut [u8], at: usize, kind: u16) -> usize

@@ -1,15 +1,17 @@
 // The sections of a request's text, each put behind the one before it.
 use crate::put_lines::put_count;
 use crate::put_lines::put_form;
+use crate::put_lines::put_logic;
 use crate::put_lines::put_step;
 use common::Counts;
 ghost use Prim.Native.Nat.{_<_, _+_, _*_};
 ghost use Rattle.scope.specs.File.Line.{lineText, manyText};
+ghost use Rattle.scope.specs.File.Kinds.{logicOf};
 ghost use Rattle.scope.specs.File.Text.{formLine, clauseLine, stepLine, requestText};
 ghost use Rattle.scope.specs.Call.Tables.{unpack, formEntry, policyEntry, stepEntry, requestOf};
 ghost use Rattle.checks.specs.Met.{lentWith};
 ghost use Rattle.writer.specs.Puts.{Puts};
-ghost use Rattle.writer.specs.Sections.{headText, formulasText, policyText, proofText};
+ghost use Rattle.writer.specs.Sections.{versionText, headText, formulasText, policyText, proofText};
 
 fn put_forms(out: &mut [u8], at: usize, count: u16, forms: &[u16]) -> usize
     requires { ⌜ at < 6000000 ⌝ }
@@ -65,10 +67,21 @@ fn put_steps(out: &mut [u8], at: usize, count: u16, steps: &[u16]) -> usize
     end
 }
 
-fn put_head(out: &mut [u8], principals: u16, atoms: u16) -> usize
-    ensures { λ r. ⌜ Puts (now (out .entry)) 0 (headText principals atoms) 66 (now (out .exit)) r ⌝ }
+// The first line, and the second in version 2.
+fn put_version(out: &mut [u8], version: u16, logic: u16) -> usize
+    ensures { λ r. ⌜ Puts (now (out .entry)) 0 (versionText version (logicOf logic)) 38 (now (out .exit)) r ⌝ }
 {
-    let first = put_count(out, 0, b"version=", 1);
+    let next = put_count(out, 0, b"version=", version);
+    if version == 2 {
+        return put_logic(out, next, logic);
+    }
+    next
+}
+
+fn put_head(out: &mut [u8], version: u16, logic: u16, principals: u16, atoms: u16) -> usize
+    ensures { λ r. ⌜ Puts (now (out .entry)) 0 (headText version (logicOf logic) principals atoms) 82 (now (out .exit)) r ⌝ }
+{
+    let first = put_version(out, version, logic);
     let second = put_count(out, first, b"principals=", principals);
     put_count(out, second, b"atoms=", atoms)
 }
@@ -106,9 +119,15 @@ pub(crate) fn put_request(
     steps: &[u16],
     out: &mut [u8],
 ) -> usize
-    ensures { λ r. ⌜ Puts (now (out .entry)) 0 (requestText (requestOf (lentWith counts (now (forms .entry)) (now (policy .entry)) (now (steps .entry))))) (66 + (22 + 45 * counts .formulas) + (22 + 22 * counts .policy) + (44 + 45 * counts .steps)) (now (out .exit)) r ⌝ }
+    ensures { λ r. ⌜ Puts (now (out .entry)) 0 (requestText (requestOf (lentWith counts (now (forms .entry)) (now (policy .entry)) (now (steps .entry))))) (82 + (22 + 45 * counts .formulas) + (22 + 22 * counts .policy) + (44 + 45 * counts .steps)) (now (out .exit)) r ⌝ }
 {
-    let formulas = put_head(out, counts.principals, counts.atoms);
+    let formulas = put_head(
+        out,
+        counts.version,
+        counts.logic,
+        counts.principals,
+        counts.atoms,
+    );
     let clauses = put_formulas(out, formulas, counts.formulas, forms);
     let proof = put_policy(out, clauses, counts.policy, policy);
     put_proof(out, proof, counts.goal, counts.steps, steps)

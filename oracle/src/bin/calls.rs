@@ -2,7 +2,7 @@
 //! compare/driver/calls.c has it, and gives back the answer with what the call leaves behind; numbers are little-endian.
 
 use oracle::generate::{loans, tables, Call, Loan};
-use oracle::{gate, judge, read, write, Counts};
+use oracle::{gate, judge, read, write, Counts, Logic};
 use std::collections::BTreeMap;
 use std::io::{self, BufReader, BufWriter, Read, Write};
 use std::process::ExitCode;
@@ -61,8 +61,15 @@ fn put_table(bytes: &mut Vec<u8>, table: &[u16]) {
     table.iter().for_each(|entry| bytes.extend(entry.to_le_bytes()));
 }
 
-fn numbers(counts: &Counts) -> [usize; 6] {
-    [counts.principals, counts.atoms, counts.formulas, counts.lines, counts.goal, counts.steps]
+/// As many as the counts have fields.
+const COUNTS: usize = 8;
+
+fn numbers(counts: &Counts) -> [usize; COUNTS] {
+    let logic = match counts.logic {
+        Logic::Plain => 0,
+        Logic::Unit => 1,
+    };
+    [counts.version, logic, counts.principals, counts.atoms, counts.formulas, counts.lines, counts.goal, counts.steps]
 }
 
 fn narrow(counts: &Counts) -> Option<Vec<u16>> {
@@ -89,7 +96,7 @@ fn back_of(refusal: u8, place: usize, column: usize, number: usize, counts: &[u1
 fn read_exchange(loan: Loan) -> Exchange {
     let mut lent = [loan.forms, loan.clauses, loan.steps];
     let lengths = [lent[0].len(), lent[1].len(), lent[2].len()];
-    let mut frame = frame_of(0, loan.file.len(), lengths, &[0; 6]);
+    let mut frame = frame_of(0, loan.file.len(), lengths, &[0; COUNTS]);
     frame.extend(&loan.file);
     lent.iter().for_each(|table| put_table(&mut frame, table));
     let [forms, clauses, steps] = &mut lent;
@@ -101,10 +108,10 @@ fn read_exchange(loan: Loan) -> Exchange {
 }
 
 fn gate_exchange(loan: &Loan) -> Exchange {
-    let mut frame = frame_of(3, loan.file.len(), [0; 3], &[0; 6]);
+    let mut frame = frame_of(3, loan.file.len(), [0; 3], &[0; COUNTS]);
     frame.extend(&loan.file);
     let answer = gate(&loan.file);
-    let back = back_of(answer.answer, answer.place, answer.column, answer.steps, &[0; 6]);
+    let back = back_of(answer.answer, answer.place, answer.column, answer.steps, &[0; COUNTS]);
     Exchange { what: "gate", name: loan.name.clone(), frame, refusal: answer.answer, back }
 }
 

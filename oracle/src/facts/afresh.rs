@@ -1,7 +1,8 @@
-//! The nine rules as they stand, run over bit rows until nothing is new.
+//! The nine rules as they stand, and the tenth of the unit law, run over bit rows until nothing is new.
 
 use super::Facts;
 use crate::limits::{PRINCIPALS, WORLDS};
+use crate::tables::Logic;
 
 /// A fact that a step or a policy line gave.
 #[derive(Clone, Copy, Debug, PartialEq, Eq)]
@@ -14,6 +15,7 @@ pub enum Given {
 /// The given facts of a sequent, oldest first; nothing closed is stored.
 #[derive(Clone, Debug)]
 pub struct Afresh {
+    logic: Logic,
     principals: usize,
     worlds: usize,
     given: Vec<Given>,
@@ -22,8 +24,8 @@ pub struct Afresh {
 impl Facts for Afresh {
     type Mark = (usize, usize);
 
-    fn root(principals: usize) -> Afresh {
-        Afresh { principals, worlds: 1, given: Vec::new() }
+    fn root(logic: Logic, principals: usize) -> Afresh {
+        Afresh { logic, principals, worlds: 1, given: Vec::new() }
     }
 
     fn worlds(&self) -> usize {
@@ -69,7 +71,7 @@ impl Facts for Afresh {
 }
 
 impl Afresh {
-    /// The least set with the given facts that the nine rules add nothing to.
+    /// The least set with the given facts that the rules add nothing to.
     pub fn close(&self) -> Closed {
         let mut closed = Closed::of(self);
         loop {
@@ -85,6 +87,7 @@ impl Afresh {
 /// Facts as bit rows: `below[u]` has bit v for u ≤ v, `said[u][a]` bit v for u S_A v, `sf[u][a]` bit b for u: A sf B.
 #[derive(Clone, Debug, PartialEq, Eq)]
 pub struct Closed {
+    logic: Logic,
     worlds: usize,
     principals: usize,
     pub below: [u64; WORLDS],
@@ -95,6 +98,7 @@ pub struct Closed {
 impl Closed {
     fn of(facts: &Afresh) -> Closed {
         let mut closed = Closed {
+            logic: facts.logic,
             worlds: facts.worlds,
             principals: facts.principals,
             below: [0; WORLDS],
@@ -127,6 +131,9 @@ impl Closed {
         }
         for u in (0..self.worlds).rev() {
             self.widen_said(u); // 2
+            if self.logic == Logic::Unit {
+                self.below[u] |= self.said_by_any(u); // 10
+            }
             for v in bits(self.below[u]) {
                 self.below[u] |= self.below[v]; // 8
                 self.carry_said(u, v); // 6

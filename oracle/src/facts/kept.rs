@@ -3,10 +3,12 @@
 
 use super::Facts;
 use crate::limits::{PRINCIPALS, WORLDS};
+use crate::tables::Logic;
 
 /// Closed facts by the world they lead into; entries at and past `worlds` are left over and mean nothing.
 #[derive(Clone, Debug)]
 pub struct Kept {
+    logic: Logic,
     worlds: usize,
     /// Bit u for u an ancestor of the world, or itself.
     path: [u64; WORLDS],
@@ -28,14 +30,14 @@ pub struct Mark {
 impl Facts for Kept {
     type Mark = Mark;
 
-    fn root(principals: usize) -> Kept {
+    fn root(logic: Logic, principals: usize) -> Kept {
         let mut sf = [[0; PRINCIPALS]; WORLDS];
         for (a, row) in sf[0].iter_mut().enumerate().take(principals) {
             *row = 1 << a;
         }
         let mut only_root = [0; WORLDS];
         only_root[0] = 1;
-        Kept { worlds: 1, path: only_root, below: only_root, said: [[0; PRINCIPALS]; WORLDS], sf }
+        Kept { logic, worlds: 1, path: only_root, below: only_root, said: [[0; PRINCIPALS]; WORLDS], sf }
     }
 
     fn worlds(&self) -> usize {
@@ -54,6 +56,13 @@ impl Facts for Kept {
         self.below[v] = 1 << v;
         for b in 0..PRINCIPALS {
             self.said[v][b] = if self.is_sf(u, b, a) { self.path[u] } else { 0 };
+        }
+        if self.logic == Logic::Unit {
+            // By rule 10 u ≤ v, and then as with a world above.
+            self.below[v] |= self.below[u];
+            for b in 0..PRINCIPALS {
+                self.said[v][b] |= self.said[u][b];
+            }
         }
         v
     }

@@ -115,7 +115,8 @@ fn cut_lines() -> Vec<Text> {
 }
 
 /// A request that reads, with every kind of line, formula and step.
-const EVERY_LINE: &str = "version=1
+const EVERY_LINE: &str = "version=2
+logic=unit
 principals=16
 atoms=100
 formulas=14

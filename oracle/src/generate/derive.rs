@@ -30,7 +30,7 @@ pub fn derived(prng: &mut Prng) -> Request {
 
 fn built(prng: &mut Prng) -> Request {
     let mut request = random_policy(prng);
-    let sequent = Sequent::of(&request, Kept::root(request.principals));
+    let sequent = Sequent::of(&request, Kept::root(request.logic, request.principals));
     let size = prng.pick(&[2, 3, 4, 4, 5, 6, 9]);
     let (goal, steps) = Build { prng, request: &mut request }.goal(&sequent, 0, size);
     request.goal = goal;
@@ -40,7 +40,7 @@ fn built(prng: &mut Prng) -> Request {
 
 fn found(prng: &mut Prng) -> Option<Request> {
     let (mut request, goal) = random_question(prng);
-    let sequent = Sequent::of(&request, Kept::root(request.principals));
+    let sequent = Sequent::of(&request, Kept::root(request.logic, request.principals));
     request.steps = search(prng, &request, &sequent, goal, limits::WORLDS, Slip::None)?;
     Some(request)
 }
@@ -93,7 +93,7 @@ pub fn misled(prng: &mut Prng) -> Request {
 
 fn find_by_slip(prng: &mut Prng, slip: Slip) -> Option<Request> {
     let (mut request, goal) = random_question(prng);
-    let sequent = Sequent::of(&request, Kept::root(request.principals));
+    let sequent = Sequent::of(&request, Kept::root(request.logic, request.principals));
     request.steps = search(prng, &request, &sequent, goal, limits::WORLDS, slip)?;
     Some(request)
 }
@@ -104,7 +104,7 @@ fn find_by_wrong_rule(prng: &mut Prng, wrong: Wrong) -> Option<Request> {
     if request.principals > 4 {
         return None;
     }
-    let sequent = Sequent::of(&request, Naive::by(request.principals, Some(wrong)));
+    let sequent = Sequent::of(&request, Naive::by(request.logic, request.principals, Some(wrong)));
     request.steps = search(prng, &request, &sequent, goal, 7, Slip::None)?;
     Some(request)
 }

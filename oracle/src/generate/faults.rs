@@ -73,7 +73,7 @@ fn number_faults() -> Vec<Fault> {
 
 fn range_faults() -> Vec<Fault> {
     let ranges: [(usize, &str, &[usize]); 9] = [
-        (1, "version", &[0, 2, 10, 65_537, 99_999]),
+        (1, "version", &[0, 3, 10, 65_537, 99_999]),
         (2, "principals", &[0, 17, 65_538, 99_999]),
         (3, "atoms", &[0, 257, 65_537, 99_999]),
         (4, "formulas", &[0, 1_025, 65_541, 99_999]),

@@ -7,7 +7,7 @@ use super::request::Request;
 use super::texts;
 use super::walks::walked;
 use crate::limits;
-use crate::tables::{Counts, Tables, KINDS, STEPS};
+use crate::tables::{Counts, Logic, Tables, KINDS, STEPS};
 
 /// What a writer or judge is called with; the judge has no use for the output's length.
 #[derive(Clone, Debug, PartialEq, Eq)]
@@ -103,9 +103,10 @@ fn lengthen(prng: &mut Prng, call: &mut Call) {
 }
 
 fn put_fault(prng: &mut Prng, call: &mut Call) {
-    match prng.below(13) {
+    match prng.below(14) {
         0 => shorten_table(prng, call),
         12 => repeat_form(prng, call),
+        13 => change_logic(prng, call),
         1 | 2 => fault_in_form(prng, call),
         3 => fault_in_clause(prng, call),
         4 => call.counts.goal = off_number(prng, call.counts.formulas),
@@ -142,6 +143,20 @@ fn fault_in_form(prng: &mut Prng, call: &mut Call) {
         0 => entry[0] = prng.pick(&[8, 9, 255, 256, u16::MAX]),
         1 => entry[0] = prng.below(KINDS.len()) as u16,
         _ => entry[prng.between(1, 2)] = prng.pick(&[1, 2, 16, 256, number as u16, number as u16 + 1, u16::MAX]),
+    }
+}
+
+/// Another version, in range or out of it, or the other logic.
+fn change_logic(prng: &mut Prng, call: &mut Call) {
+    match prng.below(3) {
+        0 => call.counts.version = prng.pick(&[1, 2]),
+        1 => call.counts.version = prng.pick(&[0, 3, 65_535, 65_537, 65_538, usize::MAX]),
+        _ => {
+            call.counts.logic = match call.counts.logic {
+                Logic::Plain => Logic::Unit,
+                Logic::Unit => Logic::Plain,
+            }
+        }
     }
 }
 

@@ -1,8 +1,9 @@
-//! The nine rules once more, one bool a fact and one loop a rule, with room for a wrong rule beside them.
+//! The rules once more, one bool a fact and one loop a rule, with room for a wrong rule beside them.
 
 use crate::facts::Facts;
+use crate::tables::Logic;
 
-/// A rule that document 01 does not have, or one of its nine left out.
+/// A rule that the documents do not have, or one of the ten left out.
 #[derive(Clone, Copy, Debug, PartialEq, Eq)]
 pub enum Wrong {
     /// u S_A v with u: A sf B gives u S_B v.
@@ -25,13 +26,15 @@ pub enum Wrong {
     Rule9First,
     /// u S_A u.
     SaidOfItself,
+    /// With the unit law u S_A v gives v ≤ u too.
+    Rule10Backward,
     /// The rule of this number is left out.
     Without(usize),
 }
 
 /// The rules too many. Rule 4 backward is not among them: nothing is ever noted at a world that an S fact leads to,
 /// so no request could tell; nor is u S_A w with z ≤ w for u S_A z, which follows wherever z ≤ w can be.
-pub const WRONG: [Wrong; 9] = [
+pub const WRONG: [Wrong; 10] = [
     Wrong::Rule2Backward,
     Wrong::SfBothWays,
     Wrong::SaidIsBelow,
@@ -41,11 +44,13 @@ pub const WRONG: [Wrong; 9] = [
     Wrong::Rule6Upward,
     Wrong::Rule9First,
     Wrong::SaidOfItself,
+    Wrong::Rule10Backward,
 ];
 
 /// Closed facts as bools, closed again after each new one.
 #[derive(Clone, Debug)]
 pub struct Naive {
+    logic: Logic,
     wrong: Option<Wrong>,
     principals: usize,
     below: Vec<Vec<bool>>,
@@ -57,8 +62,8 @@ pub struct Naive {
 impl Facts for Naive {
     type Mark = Naive;
 
-    fn root(principals: usize) -> Naive {
-        Naive::by(principals, None)
+    fn root(logic: Logic, principals: usize) -> Naive {
+        Naive::by(logic, principals, None)
     }
 
     fn worlds(&self) -> usize {
@@ -106,10 +111,10 @@ impl Facts for Naive {
 }
 
 impl Naive {
-    /// The root alone, by the nine rules and perhaps a wrong one.
-    pub fn by(principals: usize, wrong: Option<Wrong>) -> Naive {
+    /// The root alone, by the logic's rules and perhaps a wrong one.
+    pub fn by(logic: Logic, principals: usize, wrong: Option<Wrong>) -> Naive {
         let said = vec![Vec::new(); principals];
-        let mut naive = Naive { wrong, principals, below: Vec::new(), said, sf: Vec::new(), grew: false };
+        let mut naive = Naive { logic, wrong, principals, below: Vec::new(), said, sf: Vec::new(), grew: false };
         naive.add_world();
         naive.close();
         naive
@@ -140,9 +145,9 @@ impl Naive {
         self.sf[u][a][b] = true;
     }
 
-    /// Whether a rule of the nine is on the sheet.
+    /// Whether a rule is on the sheet: the tenth is with the unit law only.
     fn has_rule(&self, rule: usize) -> bool {
-        self.wrong != Some(Wrong::Without(rule))
+        self.wrong != Some(Wrong::Without(rule)) && (rule < 10 || self.logic == Logic::Unit)
     }
 
     fn close(&mut self) {
@@ -255,8 +260,11 @@ impl Naive {
         if self.has_rule(4) {
             self.copy_sf(u, v);
         }
-        if self.wrong == Some(Wrong::SaidIsBelow) {
+        if self.has_rule(10) || self.wrong == Some(Wrong::SaidIsBelow) {
             self.set_below(u, v);
+        }
+        if self.logic == Logic::Unit && self.wrong == Some(Wrong::Rule10Backward) {
+            self.set_below(v, u);
         }
     }
 

@@ -3,13 +3,18 @@
 use super::prng::Prng;
 use super::request::Request;
 use crate::limits;
-use crate::tables::Form;
+use crate::tables::{Form, Logic};
 
 /// A request without steps and goal: a few principals and atoms, a random policy.
 pub fn random_policy(prng: &mut Prng) -> Request {
     let principals = prng.pick(&[1, 2, 2, 3, 3, 4, limits::PRINCIPALS]);
     let atoms = prng.pick(&[1, 2, 2, 3, 4, limits::ATOMS]);
     let mut request = Request::new(principals, atoms);
+    match prng.below(4) {
+        0 => request = request.of_logic(Logic::Plain),
+        1 => request = request.of_logic(Logic::Unit),
+        _ => (),
+    }
     if prng.once_in(3) {
         add_delegations(prng, &mut request);
     }

@@ -3,10 +3,12 @@
 use super::{Text, Want};
 use crate::answers::is_unread;
 use crate::limits;
-use crate::tables::{Counts, Form, Operand, Step, KINDS, STEPS};
+use crate::tables::{Counts, Form, Logic, Operand, Step, KINDS, STEPS};
 
 #[derive(Clone, Debug, PartialEq, Eq)]
 pub struct Request {
+    pub version: usize,
+    pub logic: Logic,
     pub principals: usize,
     pub atoms: usize,
     pub forms: Vec<Form>,
@@ -19,7 +21,22 @@ pub struct Request {
 
 impl Request {
     pub fn new(principals: usize, atoms: usize) -> Request {
-        Request { principals, atoms, forms: Vec::new(), policy: Vec::new(), goal: 0, steps: Vec::new(), share: true }
+        Request {
+            version: 1,
+            logic: Logic::Plain,
+            principals,
+            atoms,
+            forms: Vec::new(),
+            policy: Vec::new(),
+            goal: 0,
+            steps: Vec::new(),
+            share: true,
+        }
+    }
+
+    /// The same request in version 2, with this logic.
+    pub fn of_logic(self, logic: Logic) -> Request {
+        Request { version: 2, logic, ..self }
     }
 
     /// The number of a formula, added if need be.
@@ -35,6 +52,8 @@ impl Request {
 
     pub fn counts(&self) -> Counts {
         Counts {
+            version: self.version,
+            logic: self.logic,
             principals: self.principals,
             atoms: self.atoms,
             formulas: self.forms.len(),
@@ -65,7 +84,11 @@ impl Request {
 
     /// The text, written whatever the sizes are.
     pub fn text(&self) -> Vec<u8> {
-        let mut text = format!("version=1\nprincipals={}\natoms={}\n", self.principals, self.atoms);
+        let mut text = format!("version={}\n", self.version);
+        if self.version == 2 {
+            text += &format!("logic={}\n", self.logic.word());
+        }
+        text += &format!("principals={}\natoms={}\n", self.principals, self.atoms);
         text += &format!("formulas={}\n", self.forms.len());
         for form in &self.forms {
             text += &format!("form={}\n", form_words(*form));

@@ -15,7 +15,7 @@ pub fn walked(prng: &mut Prng) -> Request {
     request.goal = add_goal(prng, &mut request, size);
     let (forms, policy, _) = request.tables();
     let policy = &policy[..request.policy.len()];
-    let mut walk = Walk::new(Forms(&forms), policy, request.goal, Kept::root(request.principals));
+    let mut walk = Walk::new(Forms(&forms), policy, request.goal, Kept::root(request.logic, request.principals));
     let length = prng.between(1, 120);
     for _ in 0..length {
         match step_that_fits(prng, &mut walk) {

@@ -1,19 +1,25 @@
 -- `facts::grow_by` meets its contract: after c turns the first c principals have their row of S to the new world.
 use borrow.Author.Needs.{needs}
 use Rattle.facts.specs.Rows.{principalsMax, seenRow}
+use Rattle.facts.specs.Bits.{when}
+use Rattle.facts.specs.NewRows.{over-turn}
 use Rattle.facts.specs.Grown.{stored-by}
-use Rattle.facts.specs.Fill.{fill, fill-more}
+use Rattle.facts.specs.Fill.{fill}
+use lib.Bits.{bitOr}
+use lib.ListN.{getD}
 use mathlib.Core.Path.{_≡_, refl}
-use Prim.Native.Nat.{_≤_, _-_}
+use Prim.Native.Nat.{ℕ, _+_, _<_, _≤_, _-_}
 use native.Mathlib.Omega.{arith}
 use Rattle.facts.proofs.grow_by.Statement.{statement}
 use Rattle.facts.proofs.grow_by.Tie as tie
 
 abbrev Inv-loop : tie.InvT-loop
-Inv-loop rows₀ a saved ways at c₀ rows c = (c ≤ principalsMax) × (rows ≡ fill (seenRow saved ways (a .0)) at c rows₀)
+Inv-loop rows₀ unit a saved ways under below from at c₀ rows c =
+    (c ≤ principalsMax) ×
+    (rows ≡ fill (λ (i : ℕ). bitOr (seenRow saved ways (a .0) i) (when unit (getD rows₀ (from + i) 0))) at c rows₀)
 
 abbrev μ-loop : tie.MeasureT-loop
-μ-loop rows₀ a saved ways at c₀ rows c = principalsMax - c
+μ-loop rows₀ unit a saved ways under below from at c₀ rows c = principalsMax - c
 
 sf-rows-requires : tie.Need-sf-rows-requires Inv-loop μ-loop
 sf-rows-requires c κs = search needs
@@ -24,11 +30,23 @@ place-of-requires c κs = search needs
 get-row-requires : tie.Need-get-row-requires Inv-loop μ-loop
 get-row-requires c κs = search needs
 
+place-of-requires-2 : tie.Need-place-of-requires-2 Inv-loop μ-loop
+place-of-requires-2 c κs = search needs
+
+get-row-requires-2 : tie.Need-get-row-requires-2 Inv-loop μ-loop
+get-row-requires-2 c κs = search needs
+
+row-if-requires : tie.Need-row-if-requires Inv-loop μ-loop
+row-if-requires c κs = search needs
+
 new-world-requires : tie.Need-new-world-requires Inv-loop μ-loop
 new-world-requires c κs = search needs
 
-place-of-requires-2 : tie.Need-place-of-requires-2 Inv-loop μ-loop
-place-of-requires-2 c κs = search needs
+place-of-requires-3 : tie.Need-place-of-requires-3 Inv-loop μ-loop
+place-of-requires-3 c κs = search needs
+
+place-of-requires-4 : tie.Need-place-of-requires-4 Inv-loop μ-loop
+place-of-requires-4 c κs = search needs
 
 loop-holds : tie.Need-loop-holds Inv-loop μ-loop
 unfolding fill
@@ -40,8 +58,17 @@ cast-number c = omega arith
 speaks-in-requires : tie.Need-speaks-in-requires Inv-loop μ-loop
 speaks-in-requires c κs = search needs
 
-row-if-requires : tie.Need-row-if-requires Inv-loop μ-loop
-row-if-requires c κs = search needs
+row-if-requires-2 : tie.Need-row-if-requires-2 Inv-loop μ-loop
+row-if-requires-2 c κs = search needs
+
+add-get-row : tie.Need-add-get-row Inv-loop μ-loop
+add-get-row c = omega arith
+
+get-row-requires-3 : tie.Need-get-row-requires-3 Inv-loop μ-loop
+get-row-requires-3 c κs = search needs
+
+row-if-requires-3 : tie.Need-row-if-requires-3 Inv-loop μ-loop
+row-if-requires-3 c κs = search needs
 
 add-put-row : tie.Need-add-put-row Inv-loop μ-loop
 add-put-row c = omega arith
@@ -56,22 +83,28 @@ loop-less : tie.Need-loop-less Inv-loop μ-loop
 loop-less c = omega arith
 
 loop-again : tie.Need-loop-again Inv-loop μ-loop
-loop-again c = (
-  omega arith,
-  fill-more _ _ _ _
-      (c .before .before .before .before .before .before .loop .inv .1)
-      (c .put-row .ensures)
-      (rw (c .before .before .row-if .ensures, c .before .before .before .speaks-in .ensures) refl),
-)
+loop-again c =
+    let low : c .before .before .before .before .before .before .before .before .before .before .loop .c < principalsMax = omega arith in (
+      omega arith,
+      over-turn _ (c .before .before .before .before .before .before .before .before .before .before .before .before .before .new-world .last .0) _ _ _ low
+          (c .before .before .before .before .before .before .before .before .before .before .before .before .place-of3 .ensures)
+          (c .before .before .before .before .before .before .before .before .before .before .before .place-of4 .ensures)
+          (c .before .before .before .before .before .before .before .before .before .before .loop .inv .1)
+          (c .before .before .before .get-row3 .ensures)
+          (λ e. rw (c .before .before .before .before .before .before .row-if2 .ensures, c .before .before .before .before .before .before .before .speaks-in .ensures, c .before .before .row-if3 .ensures, e) refl)
+          (c .put-row .ensures),
+    )
 
 returns : tie.Need-returns Inv-loop μ-loop
 returns c =
     let done : c .before .loop .c ≡ principalsMax = omega arith in
-    stored-by _ _ _ _
-    (c .before .before .before .before .before .before .before .before .before .sf-rows .ensures)
-    (rw (c .before .before .before .before .before .before .place-of .ensures) at (c .before .before .before .before .before .get-row .ensures))
-    (c .before .before .before .new-world .ensures)
-    (c .before .before .place-of2 .ensures)
+    stored-by _ _ _ _ _
+    (c .before .before .before .before .before .before .before .before .before .before .before .before .before .before .before .sf-rows .ensures)
+    (rw (c .before .before .before .before .before .before .before .before .before .before .before .before .place-of .ensures) at (c .before .before .before .before .before .before .before .before .before .before .before .get-row .ensures))
+    (rw (c .before .before .before .before .before .before .before .get-row2 .ensures, c .before .before .before .before .before .before .before .before .place-of2 .ensures) at (c .before .before .before .before .before .before .row-if .ensures))
+    (c .before .before .before .before .new-world .ensures)
+    (c .before .before .before .place-of3 .ensures)
+    (c .before .before .place-of4 .ensures)
     done
     (c .before .loop .inv .1)
 
@@ -84,12 +117,19 @@ grow-by-spec =
     sf-rows-requires
     place-of-requires
     get-row-requires
-    new-world-requires
     place-of-requires-2
+    get-row-requires-2
+    row-if-requires
+    new-world-requires
+    place-of-requires-3
+    place-of-requires-4
     loop-holds
     cast-number
     speaks-in-requires
-    row-if-requires
+    row-if-requires-2
+    add-get-row
+    get-row-requires-3
+    row-if-requires-3
     add-put-row
     put-row-requires
     add-c

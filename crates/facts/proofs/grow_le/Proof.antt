@@ -64,11 +64,12 @@ loop-again : tie.Need-loop-again Inv-loop μ-loop
 loop-again c =
     let low : c .before .before .before .before .before .before .loop .c < principalsMax = omega arith in (
       omega arith,
-      over-turn (c .before .before .before .before .before .before .before .before .before .new-world .last .0) _ _ _ low
+      over-turn _ (c .before .before .before .before .before .before .before .before .before .new-world .last .0) _ _ _ low
           (c .before .before .before .before .before .before .before .before .place-of3 .ensures)
           (c .before .before .before .before .before .before .before .place-of4 .ensures)
           (c .before .before .before .before .before .before .loop .inv .1)
           (c .before .before .get-row3 .ensures)
+          (λ e. e)
           (c .put-row .ensures),
     )
 

@@ -32,9 +32,9 @@ walked-to-requires c κs = search needs
 
 returns-2 : tie.Need-returns-2
 returns-2 c =
-    let told = c .before .before .enum-told .given .1 in
-    let met = c .before .before .before .before .check-tables .ensures in
-    c .walked-to .ensures ∙ ap walkedTo (c .before .walk-steps .ensures) ∙ walk-answers _ (sym met ∙ told)
+    let told = c .before .before .before .enum-told .given .1 in
+    let met = c .before .before .before .before .before .check-tables .ensures in
+    c .walked-to .ensures ∙ ap walkedTo (c .before .walk-steps .ensures) ∙ walk-answers _ _ (c .before .before .is-unit .ensures) (sym met ∙ told)
 
 pub judge-spec : {M : Type 1} → statement M
 judge-spec =
@@ -45,6 +45,7 @@ judge-spec =
     enum-told-2
     refused-by-requires
     returns
+    (λ c κs. search needs)
     walk-steps-requires
     walked-to-requires
     returns-2)

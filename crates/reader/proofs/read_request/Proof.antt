@@ -101,6 +101,7 @@ returns-2 c = let o : asked (c .before .before) ≡ refused (answer 1 0) = too-l
 
 read-parts-requires : tie.Need-read-parts-requires
 read-parts-requires c κs = let r = room-is _ _ _ (enough (c .before .before .before .before)) in (
+  c .before .before .before .if2 .left,
   omega (arith, c .before .before .before .before .before .before .before .before .before .before .before .before .before .before .before .before .zero-table .kept .0, r .formRoom),
   c .before .before .before .before .before .before .before .before .before .before .before .before .before .before .before .before .zero-table .ensures ∙
       ap (λ n. replicate n 0)

@@ -4,6 +4,7 @@ use mathlib.Core.List.{List, []}
 use mathlib.Core.Bool.{cond}
 use lib.Dec.{leb}
 use lib.ListN.{length}
+use Rattle.scope.specs.Logic.Facts.{plain}
 use Rattle.scope.specs.File.Request.{Request}
 use Rattle.scope.specs.Call.Answer.{Answer, told, answer}
 use Rattle.scope.specs.Limits.{mostBytes}
@@ -22,9 +23,9 @@ unfoldable pub outcomeAnswer : Outcome → Answer
 outcomeAnswer (read q) = answer 0 0
 outcomeAnswer (refused a) = a
 
--- 'The counts and the goal come in the answer; after a refusal they are 0.'
+-- 'The counts and the goal come in the answer; after a refusal they are 0.' So do version and logic.
 abbrev pub noRequest : Request
-noRequest = record { principals = 0; atoms = 0; forms = []; policy = []; goal = 0; steps = [] }
+noRequest = record { version = 0; logic = plain; principals = 0; atoms = 0; forms = []; policy = []; goal = 0; steps = [] }
 
 unfoldable pub requestIn : Outcome → Request
 requestIn (read q) = q

@@ -1,16 +1,16 @@
 -- What writer and judge ask of lent tables before anything else: 'It gives 13; then 3, 4 or 5 at the line where the text would have it;
--- then 3 at place 0 for a nonzero entry past the counts.'
+-- then 3 at place 0 for a nonzero entry past the counts.' l) 'unit told with version 1 is 16 at place 0, after 13.'
 use Prim.Native.Nat.{ℕ, zero, suc, _*_}
-use mathlib.Core.List.{List, [], _∷_, _++_}
+use mathlib.Core.List.{List, [], _∷_, _++_, map}
 use mathlib.Core.Bool.{Bool, true}
 use lib.Dec.{eqb}
 use lib.ListN.{length, drop}
 use Rattle.scope.specs.Logic.Form.{both}
 use Rattle.scope.specs.File.Request.{Request}
-use Rattle.scope.specs.Call.Answer.{Answer, told, answer}
+use Rattle.scope.specs.Call.Answer.{Answer, told, answer, furtherDown}
 use Rattle.scope.specs.File.Bytes.{joined}
-use Rattle.scope.specs.Limits.{principalsAt, atomsAt, formulasAt, formAt, clausesAt, clauseAt, goalAt, stepsAt, stepAt}
-use Rattle.scope.specs.File.Refusals.{demand, countRefusal, principalsRefusal, atomsRefusal, formulasRefusal, formRefusal, clausesRefusal, clauseRefusal, goalRefusal, stepsRefusal, stepRefusal}
+use Rattle.scope.specs.Limits.{versionAt, extraLines, principalsAt, atomsAt, formulasAt, formAt, clausesAt, clauseAt, goalAt, stepsAt, stepAt}
+use Rattle.scope.specs.File.Refusals.{demand, countRefusal, versionRefusal, unitRefusal, principalsRefusal, atomsRefusal, formulasRefusal, formRefusal, clausesRefusal, clauseRefusal, goalRefusal, stepsRefusal, stepRefusal}
 use Rattle.scope.specs.Call.Tables.{Lent, hasRoom, requestOf}
 
 -- 'The first met is the answer, with no other given.' An answer numbered 0 is no refusal.
@@ -24,10 +24,10 @@ unfoldable pub eachOf : {A : Type 0} → (List A → A → Answer) → List A �
 eachOf about before [] = []
 eachOf about before (x ∷ xs) = about before x ∷ eachOf about (before ++ (x ∷ [])) xs
 
--- The lines that the text of a request would have, after the first.
-unfoldable pub lineAnswers : Request → List Answer
+-- The lines that the text of a request would have from `principals=` on, as version 1 counts them.
+unfoldable pub bodyAnswers : Request → List Answer
 unfolding joined eachOf countRefusal formRefusal clauseRefusal goalRefusal stepRefusal
-lineAnswers q =
+bodyAnswers q =
     joined
     ((answer (principalsRefusal (q .principals)) principalsAt ∷
     answer (atomsRefusal (q .atoms)) atomsAt ∷
@@ -45,6 +45,11 @@ lineAnswers q =
     (q .steps) ∷
     [])
 
+-- All lines: no logic is out of shape, so that its line has no refusal.
+unfoldable pub lineAnswers : Request → List Answer
+unfolding countRefusal furtherDown bodyAnswers
+lineAnswers q = answer (versionRefusal (q .version)) versionAt ∷ map (furtherDown (extraLines (q .version))) (bodyAnswers q)
+
 unfoldable pub allZero : List ℕ → Bool
 unfolding both
 allZero [] = true
@@ -59,11 +64,12 @@ pastZero t =
     (both (allZero (drop (t .policy) (t .policyTable))) (allZero (drop (2 * t .steps) (t .stepTable))))
 
 unfoldable pub checked : Lent → Answer
-unfolding firstMet joined demand hasRoom requestOf lineAnswers pastZero
+unfolding firstMet joined demand hasRoom unitRefusal requestOf lineAnswers pastZero
 checked t =
     firstMet
     (joined
     ((answer (demand (hasRoom (length (t .formTable)) (length (t .policyTable)) (length (t .stepTable))) 13 0) 0 ∷ []) ∷
+    (answer (unitRefusal (t .version) (t .logic)) 0 ∷ []) ∷
     lineAnswers (requestOf t) ∷
     (answer (demand (pastZero t) 3 0) 0 ∷ []) ∷
     []))

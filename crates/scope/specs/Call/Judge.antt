@@ -29,7 +29,7 @@ stepsOf q = map stepOf (q .steps)
 
 unfoldable pub startOf : Request → Obligation
 unfolding start policyOf goalOf
-startOf q = start (q .principals) (policyOf q) (goalOf q)
+startOf q = start (q .logic) (q .principals) (policyOf q) (goalOf q)
 
 -- The answers about steps.
 unfoldable pub stepsAnswer : Request → Answer

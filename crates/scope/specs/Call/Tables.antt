@@ -4,13 +4,16 @@ use mathlib.Core.List.{List, [], _∷_, _++_, map}
 use mathlib.Core.Bool.{Bool}
 use lib.Dec.{leb}
 use lib.ListN.{length, getD, take, drop, replicate}
+use Rattle.scope.specs.Logic.Facts.{Logic}
 use Rattle.scope.specs.Logic.Form.{both}
 use Rattle.scope.specs.File.Request.{Row, Request}
 use Rattle.scope.specs.File.Bytes.{joined}
 use Rattle.scope.specs.Limits.{mostFormulas, mostPolicyLines, mostSteps}
 
--- What a call on tables is given: the counts, the goal, and the three tables over their whole lent length.
+-- What a call on tables is given: version and logic, the counts, the goal, and the three tables over their whole lent length.
 pub record Lent : Type 0 where
+  pub version : ℕ
+  pub logic : Logic
   pub principals : ℕ
   pub atoms : ℕ
   pub formulas : ℕ
@@ -74,6 +77,8 @@ unfoldable pub requestOf : Lent → Request
 unfolding unpack
 requestOf t =
     record {
+      version = t .version;
+      logic = t .logic;
       principals = t .principals;
       atoms = t .atoms;
       forms = unpack formEntry (t .formulas) (t .formTable);
@@ -87,6 +92,8 @@ unfoldable pub lentOf : ℕ → ℕ → ℕ → Request → Lent
 unfolding table
 lentOf forms policy steps q =
     record {
+      version = q .version;
+      logic = q .logic;
       principals = q .principals;
       atoms = q .atoms;
       formulas = length (q .forms);

@@ -5,8 +5,8 @@ use mathlib.Core.Path.{_≡_, refl}
 use mathlib.Core.Bool.{Bool, true, false}
 use mathlib.Core.List.{List, [], _∷_}
 use mathlib.Core.Logic.{_⊎_, inl, inr}
-use Rattle.scope.specs.Logic.Facts.{Fact, le, by, sf, Sheet, Among, here, there, Named, Basis, basis}
-use Rattle.scope.specs.Logic.Held.{Edge, edge, way, lesOf, linksOf, addIf, pairsAt, reaches, isNamed, keepIf, named, follows}
+use Rattle.scope.specs.Logic.Facts.{Fact, le, by, sf, Logic, plain, unit, Sheet, Among, here, there, Named, Basis, basis}
+use Rattle.scope.specs.Logic.Held.{Edge, edge, way, lesOf, linksOf, upsOf, addIf, pairsAt, reaches, isNamed, keepIf, named, follows}
 use Rattle.scope.specs.Closing.Paths.{Agrees, agrees-as, agrees-none, agrees-both, agrees-either, agrees-eqb, agrees-ltb}
 use Rattle.scope.specs.Closing.Paths.{Path, Way, path-agrees, way-agrees, On, first, later}
 
@@ -56,6 +56,29 @@ by-links (there {g = le x y} i) = later (by-links i)
 by-links (there {g = by a x y} i) = later (by-links i)
 by-links (there {g = sf x a b} i) = by-links i
 
+-- What leads up is a given u ≤ v, or with unit a given u S_A v.
+pub data Up (l : Logic) (fs : List Fact) (u v : ℕ) : Type 0 where
+  up-le : Among fs (le u v) → Up l fs u v
+  up-by : {a : ℕ} → l ≡ unit → Among fs (by a u v) → Up l fs u v
+
+pub ups-given : (l : Logic) (fs : List Fact) {u v : ℕ} → On (edge u v) (upsOf l fs) → Up l fs u v
+unfolding upsOf
+ups-given plain fs o = up-le (les-given fs o)
+ups-given unit fs o = by-link (links-given fs o)
+  where
+    by-link : {u v : ℕ} → Link fs u v → Up unit fs u v
+    by-link (link-le i) = up-le i
+    by-link (link-by i) = up-by refl i
+
+pub le-ups : (l : Logic) {u v : ℕ} {fs : List Fact} → Among fs (le u v) → On (edge u v) (upsOf l fs)
+unfolding upsOf
+le-ups plain i = given-le i
+le-ups unit i = le-links i
+
+pub links-ups : (l : Logic) (fs : List Fact) → l ≡ unit → upsOf l fs ≡ linksOf fs
+unfolding upsOf
+links-ups l fs e = rw e refl
+
 -- A pair at u is an A sf B given at a world from which links lead to u.
 pub data Pair (links : List Edge) (u a b : ℕ) (fs : List Fact) : Type 0 where
   pair : {x : ℕ} → Among fs (sf x a b) → Way links x u → Pair links u a b fs
@@ -97,10 +120,10 @@ pub data Reach (all : List Fact) (links les : List Edge) (a u z : ℕ) (fs : Lis
 -- `follows`, constructor for case.
 pub data Holds (s : Sheet) (fs : List Fact) : Fact → Type 0 where
   same : {u : ℕ} → u < s .worlds → Holds s fs (le u u)
-  up : {u v : ℕ} → Path (lesOf fs) u v → Holds s fs (le u v)
+  up : {u v : ℕ} → Path (upsOf (s .logic) fs) u v → Holds s fs (le u v)
   self : {u a : ℕ} → u < s .worlds → a < s .principals → Holds s fs (sf u a a)
   speaks : {u a b : ℕ} → Path (pairsAt (linksOf fs) u fs) a b → Holds s fs (sf u a b)
-  sees : {a u z : ℕ} → Reach fs (linksOf fs) (lesOf fs) a u z fs → Holds s fs (by a u z)
+  sees : {a u z : ℕ} → Reach fs (linksOf fs) (upsOf (s .logic) fs) a u z fs → Holds s fs (by a u z)
 
 reach-later : {all : List Fact} {links les : List Edge} {a u z : ℕ} {g : Fact} {fs : List Fact} →
     Reach all links les a u z fs → Reach all links les a u z (g ∷ fs)
@@ -140,13 +163,13 @@ reaches-agrees all links les a u z (by b x w ∷ fs) =
 pub follows-agrees : (s : Sheet) (fs : List Fact) (f : Fact) → Agrees (follows s fs f) (Holds s fs f)
 unfolding follows
 follows-agrees s fs (le u v) =
-    agrees-as to from (agrees-either (agrees-both (agrees-eqb u v) (agrees-ltb u (s .worlds))) (path-agrees (lesOf fs) u v))
+    agrees-as to from (agrees-either (agrees-both (agrees-eqb u v) (agrees-ltb u (s .worlds))) (path-agrees (upsOf (s .logic) fs) u v))
   where
-    to : ((u ≡ v) × (u < s .worlds)) ⊎ Path (lesOf fs) u v → Holds s fs (le u v)
+    to : ((u ≡ v) × (u < s .worlds)) ⊎ Path (upsOf (s .logic) fs) u v → Holds s fs (le u v)
     to (inl p) = rw (← p .0) (same (p .1))
     to (inr p) = up p
 
-    from : {v : ℕ} → Holds s fs (le u v) → ((u ≡ v) × (u < s .worlds)) ⊎ Path (lesOf fs) u v
+    from : {v : ℕ} → Holds s fs (le u v) → ((u ≡ v) × (u < s .worlds)) ⊎ Path (upsOf (s .logic) fs) u v
     from (same l) = inl (refl, l)
     from (up p) = inr p
 follows-agrees s fs (sf u a b) =
@@ -163,9 +186,9 @@ follows-agrees s fs (sf u a b) =
         ((a ≡ b) × ((u < s .worlds) × (a < s .principals))) ⊎ Path (pairsAt (linksOf fs) u fs) a b
     from (self h l) = inl (refl, (h, l))
     from (speaks p) = inr p
-follows-agrees s fs (by a u z) = agrees-as (λ r. sees r) from (reaches-agrees fs (linksOf fs) (lesOf fs) a u z fs)
+follows-agrees s fs (by a u z) = agrees-as (λ r. sees r) from (reaches-agrees fs (linksOf fs) (upsOf (s .logic) fs) a u z fs)
   where
-    from : Holds s fs (by a u z) → Reach fs (linksOf fs) (lesOf fs) a u z fs
+    from : Holds s fs (by a u z) → Reach fs (linksOf fs) (upsOf (s .logic) fs) a u z fs
     from (sees r) = r
 
 -- `named` keeps of a list what is its basis.

@@ -1,21 +1,22 @@
 -- Laws of closing, for any base: all that is used of the closed facts is that they are the least set that holds the base and obeys the rules.
 use Prim.Native.Nat.{ℕ, _<_, _≤_}
+use mathlib.Core.Path.{_≡_}
 use mathlib.Core.Logic.{_↔_, _⊎_, inl, inr, ⊎-elim}
 use native.Mathlib.Omega.{arith}
-use Rattle.scope.specs.Logic.Facts.{Fact, le, by, Sheet, Closed, given, rule1, rule6, rule7, closed, least}
+use Rattle.scope.specs.Logic.Facts.{Fact, le, by, unit, Sheet, Closed, given, rule1, rule6, rule7, rule10, closed, least}
 
 -- One set of facts and another put together.
 abbrev pub Joined : (Fact → Type 0) → (Fact → Type 0) → Fact → Type 0
 Joined A B f = A f ⊎ B f
 
--- Closing is monotone in worlds, principals and base.
+-- Closing is monotone in worlds, principals, logic (unit above plain) and base.
 pub larger : {s t : Sheet} {A B : Fact → Type 0} {f : Fact} →
-    s .worlds ≤ t .worlds → s .principals ≤ t .principals → ((g : Fact) → A g → B g) → Closed s A f → Closed t B f
-larger {t} {B} p q h =
+    s .worlds ≤ t .worlds → s .principals ≤ t .principals → (s .logic ≡ unit → t .logic ≡ unit) → ((g : Fact) → A g → B g) → Closed s A f → Closed t B f
+larger {t} {B} p q l h =
     let c = closed t B in
     least
     (record {
-      rule1 = λ u a i l. rule1 (omega arith) (omega arith);
+      rule1 = λ u a i j. rule1 (omega arith) (omega arith);
       rule2 = c .rule2;
       rule3 = c .rule3;
       rule4 = c .rule4;
@@ -24,6 +25,7 @@ larger {t} {B} p q h =
       rule7 = λ u i. rule7 (omega arith);
       rule8 = c .rule8;
       rule9 = c .rule9;
+      rule10 = λ u v a e i. rule10 (l e) i;
     })
     (λ g a. given (h g a))
 

@@ -1,11 +1,12 @@
 -- The kinds of `form=` and `step=` lines: the two tables, and how a row is written.
-use Prim.Native.Nat.{ℕ, suc}
+use Prim.Native.Nat.{ℕ, zero, suc}
 use Prim.Native.String.{String}
 use mathlib.Core.List.{List, [], _∷_, _++_, map}
 use mathlib.Core.Bool.{Bool, true, false, cond}
 use mathlib.Core.Option.{Option, none, some}
 use lib.Dec.{eqb}
 use lib.ListN.{length, getD, take}
+use Rattle.scope.specs.Logic.Facts.{Logic, plain, unit}
 use Rattle.scope.specs.Logic.Form.{both}
 use Rattle.scope.specs.File.Request.{Row}
 use Rattle.scope.specs.File.Bytes.{bytes}
@@ -64,6 +65,19 @@ stepKinds =
     kind "drop" [] ∷
     kind "note" [] ∷
     []
+
+-- l) '`logic=plain` or `logic=unit`': words with no operand, numbered 0 and 1.
+unfoldable pub logicKinds : List Kind
+logicKinds = kind "plain" [] ∷ kind "unit" [] ∷ []
+
+abbrev pub logicNumber : Logic → ℕ
+logicNumber plain = 0
+logicNumber unit = 1
+
+-- Of a number that is told with lent tables: every number but 0 tells unit.
+unfoldable pub logicOf : ℕ → Logic
+logicOf zero = plain
+logicOf (suc n) = unit
 
 -- The kind of a number, of no word and no operand where there is none.
 unfoldable pub kindIn : List Kind → ℕ → Kind
@@ -148,3 +162,20 @@ kindsStop (c ∷ cs) s = larger (kindStop c s) (kindsStop cs s)
 
 abbrev pub rowShape : List Kind → Shape Row
 rowShape ks = record { thing = rowIn ks; text = rowText ks; stop = kindsStop ks }
+
+-- A word of the table of logics, and nothing else.
+unfoldable pub logicIn : Option ℕ → Option Logic
+unfolding logicOf
+logicIn none = none
+logicIn (some n) = some (logicOf n)
+
+unfoldable pub logicWord : List ℕ → Option Logic
+unfolding logicKinds kindFrom logicIn
+logicWord s = logicIn (kindFrom 0 logicKinds s)
+
+unfoldable pub logicText : Logic → List ℕ
+unfolding logicKinds kindIn
+logicText l = kindIn logicKinds (logicNumber l) .word
+
+abbrev pub logicShape : Shape Logic
+logicShape = record { thing = logicWord; text = logicText; stop = kindsStop logicKinds }

@@ -5,7 +5,7 @@ use mathlib.Core.Bool.{cond}
 use mathlib.Core.Option.{Option, none, some}
 use lib.Dec.{eqb}
 use lib.ListN.{length}
-use Rattle.scope.specs.Call.Answer.{Answer, told, columnFor}
+use Rattle.scope.specs.Call.Answer.{Answer, told, columnFor, furtherDown}
 use Rattle.scope.specs.File.Bytes.{joined}
 use Rattle.scope.specs.File.Stops.{wordStop}
 
@@ -104,6 +104,16 @@ _>>=_ m next = λ s. andThen (m s) next
 
 abbrev pub done : {A : Type 0} → A → Reader A
 done a = λ s. ok a s
+
+-- Lines that stand n lines further down: only the place of a refusal is another.
+unfoldable pub movedDown : {A : Type 0} → ℕ → Read A → Read A
+unfolding furtherDown
+movedDown n (ok a rest) = ok a rest
+movedDown n (bad a) = bad (furtherDown n a)
+
+unfoldable pub further : {A : Type 0} → ℕ → Reader A → Reader A
+unfolding movedDown
+further n m = λ s. movedDown n (m s)
 
 -- n things, each read in the light of those before it.
 unfoldable pub many : {A : Type 0} → (List A → Reader A) → ℕ → List A → Reader (List A)

@@ -1,16 +1,18 @@
 -- The request that a text gives, or its refusal: 'lines in order, each 2, 3, 4, 5; then 6', with 15 after 4.
 use Prim.Native.Nat.{ℕ, suc}
 use mathlib.Core.List.{List, [], _∷_}
+use mathlib.Core.Bool.{cond}
 use lib.ListN.{length}
-use Rattle.scope.specs.Call.Answer.{Answer, answer}
+use Rattle.scope.specs.Logic.Facts.{Logic, plain}
+use Rattle.scope.specs.Call.Answer.{Answer, answer, furtherDown}
 use Rattle.scope.specs.File.Request.{Row, Request}
 use Rattle.scope.specs.File.Number.{number}
-use Rattle.scope.specs.File.Line.{Read, ok, bad, Reader, line, counted, done, _>>=_}
-use Rattle.scope.specs.Limits.{versionAt, principalsAt, atomsAt, formulasAt, formAt, clausesAt, clauseAt, goalAt, stepsAt, stepAt, endAt}
+use Rattle.scope.specs.File.Line.{Read, ok, bad, Reader, line, counted, done, further, _>>=_}
+use Rattle.scope.specs.Limits.{versionAt, hasLogic, logicAt, extraLines, principalsAt, atomsAt, formulasAt, formAt, clausesAt, clauseAt, goalAt, stepsAt, stepAt, endAt}
 use Rattle.scope.specs.File.Stops.{digitsStop, endStop}
-use Rattle.scope.specs.File.Kinds.{formKinds, stepKinds, rowIn, kindsStop}
+use Rattle.scope.specs.File.Kinds.{formKinds, stepKinds, logicKinds, rowIn, kindsStop, logicWord}
 use Rattle.scope.specs.File.Refusals.{countRefusal, versionRefusal, principalsRefusal, atomsRefusal, formulasRefusal, formRefusal, clausesRefusal, clauseRefusal, goalRefusal, stepsRefusal, stepRefusal}
-use Rattle.scope.specs.File.Text.{versionLine, principalsLine, atomsLine, formulasLine, formLine, clausesLine, clauseLine, goalLine, stepsLine, stepLine}
+use Rattle.scope.specs.File.Text.{versionLine, logicLine, principalsLine, atomsLine, formulasLine, formLine, clausesLine, clauseLine, goalLine, stepsLine, stepLine}
 
 pub data Outcome : Type 0 where
   read : Request → Outcome
@@ -26,22 +28,36 @@ clauseItem forms before = line clauseLine (clauseRefusal forms) (clauseAt (lengt
 abbrev pub stepItem : ℕ → ℕ → List Row → Reader Row
 stepItem formulas clauses before = line stepLine stepRefusal (stepAt formulas clauses (suc (length before)))
 
-unfoldable pub requestLines : Reader Request
+-- The lines from `principals=` on, as version 1 counts them.
+unfoldable pub bodyLines : ℕ → Logic → Reader Request
 unfolding line counted _>>=_ number rowIn digitsStop endStop kindsStop formKinds stepKinds countRefusal formRefusal clauseRefusal goalRefusal stepRefusal
-requestLines = do
-  version ← line versionLine versionRefusal versionAt
+bodyLines version logic = do
   principals ← line principalsLine principalsRefusal principalsAt
   atoms ← line atomsLine atomsRefusal atomsAt
   forms ← counted formulasLine formulasRefusal formulasAt (formItem principals atoms)
   policy ← counted clausesLine clausesRefusal (clausesAt (length forms)) (clauseItem forms)
   goal ← line goalLine (goalRefusal forms) (goalAt (length forms) (length policy))
   steps ← counted stepsLine stepsRefusal (stepsAt (length forms) (length policy)) (stepItem (length forms) (length policy))
-  done record { principals = principals; atoms = atoms; forms = forms; policy = policy; goal = goal; steps = steps }
+  done record { version = version; logic = logic; principals = principals; atoms = atoms; forms = forms; policy = policy; goal = goal; steps = steps }
+
+-- l) '`version=2` with a second line `logic=plain` or `logic=unit`. Version 1 is read as before and means plain.'
+unfoldable pub readLogic : ℕ → Reader Logic
+unfolding line logicWord kindsStop logicKinds
+readLogic version = cond (hasLogic version) (line logicLine (λ logic. 0) logicAt) (done plain)
+
+unfoldable pub requestLines : Reader Request
+unfolding line _>>=_ number digitsStop endStop countRefusal readLogic further bodyLines
+requestLines = do
+  version ← line versionLine versionRefusal versionAt
+  logic ← readLogic version
+  further (extraLines version) (bodyLines version logic)
 
 -- 'Nothing follows.' 'bytes after the last step'
 unfoldable pub ended : Read Request → Outcome
+unfolding furtherDown
 ended (ok q []) = read q
-ended (ok q (b ∷ rest)) = refused (answer 6 (endAt (length (q .forms)) (length (q .policy)) (length (q .steps))))
+ended (ok q (b ∷ rest)) =
+    refused (furtherDown (extraLines (q .version)) (answer 6 (endAt (length (q .forms)) (length (q .policy)) (length (q .steps)))))
 ended (bad a) = refused a
 
 unfoldable pub readRequest : List ℕ → Outcome

@@ -4,9 +4,10 @@ use mathlib.Core.List.{List, [], _∷_}
 use mathlib.Core.Bool.{Bool, true, false}
 use lib.Dec.{leb, ltb, eqb}
 use lib.ListN.{length}
+use Rattle.scope.specs.Logic.Facts.{Logic, isUnit}
 use Rattle.scope.specs.Logic.Form.{both, either, negate}
 use Rattle.scope.specs.File.Request.{Row, policyClass, goalClass}
-use Rattle.scope.specs.Limits.{mostPrincipals, mostAtoms, mostFormulas, mostPolicyLines, mostSteps, mostStepNumber}
+use Rattle.scope.specs.Limits.{mostVersion, mostPrincipals, mostAtoms, mostFormulas, mostPolicyLines, mostSteps, mostStepNumber}
 use Rattle.scope.specs.File.Kinds.{Sort, atomNumber, principalNumber, formulaNumber, clauseNumber, worldNumber, Kind, kindIn, operandsOf, formKinds, stepKinds}
 
 -- What is demanded, the refusal where it fails, and what is asked after it.
@@ -14,13 +15,18 @@ unfoldable pub demand : Bool → ℕ → ℕ → ℕ
 demand true k next = next
 demand false k next = k
 
--- 'a version other than 1, a count outside the table above'
+-- 'a count outside the table above'; l) 'a version above 2 or equal to 0'
 unfoldable pub countRefusal : ℕ → ℕ → ℕ → ℕ
 unfolding both demand
 countRefusal least most n = demand (both (leb least n) (leb n most)) 3 0
 
 abbrev pub versionRefusal : ℕ → ℕ
-versionRefusal = countRefusal 1 1
+versionRefusal = countRefusal 1 mostVersion
+
+-- l) 'unit told with version 1 is 16': of lent tables alone, for a file of version 1 tells no logic.
+unfoldable pub unitRefusal : ℕ → Logic → ℕ
+unfolding both demand negate
+unitRefusal version logic = demand (negate (both (eqb version 1) (isUnit logic))) 16 0
 
 abbrev pub principalsRefusal : ℕ → ℕ
 principalsRefusal = countRefusal 1 mostPrincipals

@@ -3,6 +3,7 @@ use Prim.Native.Nat.{ℕ}
 use mathlib.Core.List.{List, [], _∷_, _++_}
 use mathlib.Core.Bool.{Bool}
 use lib.ListN.{getD}
+use Rattle.scope.specs.Logic.Facts.{Logic}
 use Rattle.scope.specs.Logic.Form.{Form, atom, top, bot, and, or, imp, says, sf, isGoal, isPolicy}
 
 -- A `form=` or `step=` line by its numbers: the kind, then its operands, 0 where the kind lacks one. A step's second operand is 0.
@@ -13,6 +14,8 @@ pub record Row : Type 0 where
 
 -- The request that a text or lent tables give. Its formulas, policy lines and steps are numbered by their places in the lists, from 0.
 pub record Request : Type 0 where
+  pub version : ℕ
+  pub logic : Logic
   pub principals : ℕ
   pub atoms : ℕ
   pub forms : List Row

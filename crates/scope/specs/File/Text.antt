@@ -1,13 +1,16 @@
 -- 'The request file': its lines, and the text of a request.
 use Prim.Native.Nat.{ℕ}
 use Prim.Native.String.{String}
-use mathlib.Core.List.{List, [], _∷_}
+use mathlib.Core.List.{List, [], _∷_, _++_}
+use mathlib.Core.Bool.{cond}
+use Rattle.scope.specs.Logic.Facts.{Logic}
+use Rattle.scope.specs.Limits.{hasLogic}
 use Rattle.scope.specs.File.Request.{Row, Request}
 use Rattle.scope.specs.File.Bytes.{bytes, joined}
 use Rattle.scope.specs.File.Number.{number, numeral}
 use Rattle.scope.specs.File.Stops.{digitsStop, endStop}
 use Rattle.scope.specs.File.Line.{Shape, Line, lineText, countedText}
-use Rattle.scope.specs.File.Kinds.{Kind, formKinds, stepKinds, rowText, rowShape}
+use Rattle.scope.specs.File.Kinds.{Kind, formKinds, stepKinds, rowText, rowShape, logicText, logicShape}
 
 abbrev pub numberShape : Shape ℕ
 numberShape = record { thing = number; text = numeral; stop = digitsStop endStop }
@@ -22,6 +25,10 @@ rowLine key kinds = record { key = bytes key; shape = rowShape kinds }
 -- that many `clause=` lines, `goal=`, `steps=` and that many `step=` lines.'
 abbrev pub versionLine : Line ℕ
 versionLine = numberLine "version="
+
+-- l) 'a second line `logic=plain` or `logic=unit`', in version 2
+abbrev pub logicLine : Line Logic
+logicLine = record { key = bytes "logic="; shape = logicShape }
 
 abbrev pub principalsLine : Line ℕ
 principalsLine = numberLine "principals="
@@ -50,15 +57,24 @@ stepsLine = numberLine "steps="
 abbrev pub stepLine : Line Row
 stepLine = rowLine "step=" stepKinds
 
-unfoldable pub requestText : Request → List ℕ
+-- The lines from `principals=` on.
+unfoldable pub bodyText : Request → List ℕ
 unfolding joined lineText countedText numeral rowText formKinds stepKinds
-requestText q =
+bodyText q =
     joined
-    (lineText versionLine 1 ∷
-    lineText principalsLine (q .principals) ∷
+    (lineText principalsLine (q .principals) ∷
     lineText atomsLine (q .atoms) ∷
     countedText formulasLine formLine (q .forms) ∷
     countedText clausesLine clauseLine (q .policy) ∷
     lineText goalLine (q .goal) ∷
     countedText stepsLine stepLine (q .steps) ∷
     [])
+
+-- The line of the logic, where the version has one.
+unfoldable pub logicLines : ℕ → Logic → List ℕ
+unfolding lineText logicText
+logicLines version logic = cond (hasLogic version) (lineText logicLine logic) []
+
+unfoldable pub requestText : Request → List ℕ
+unfolding lineText numeral logicLines bodyText
+requestText q = lineText versionLine (q .version) ++ (logicLines (q .version) (q .logic) ++ bodyText q)

@@ -1,5 +1,7 @@
 -- Document 01's section 'Facts at the worlds'.
 use Prim.Native.Nat.{ℕ, suc, _<_}
+use mathlib.Core.Path.{_≡_}
+use mathlib.Core.Bool.{Bool, true, false}
 use mathlib.Core.List.{List, _∷_}
 
 -- A sequent has facts u ≤ v, u S_A v and u: A sf B.
@@ -8,16 +10,25 @@ pub data Fact : Type 0 where
   by : ℕ → ℕ → ℕ → Fact
   sf : ℕ → ℕ → ℕ → Fact
 
--- What the rules are told of a sequent: how many worlds and how many principals there are.
+-- Document 02 l): `logic=plain` or `logic=unit`.
+pub data Logic : Type 0 where
+  plain unit : Logic
+
+abbrev pub isUnit : Logic → Bool
+isUnit plain = false
+isUnit unit = true
+
+-- What the rules are told of a sequent: how many worlds and how many principals there are, and the logic.
 pub record Sheet : Type 0 where
   pub worlds : ℕ
   pub principals : ℕ
+  pub logic : Logic
 
 -- The same with one world more.
 abbrev pub grown : Sheet → Sheet
-grown s = record { worlds = suc (s .worlds); principals = s .principals }
+grown s = record { worlds = suc (s .worlds); principals = s .principals; logic = s .logic }
 
--- A set of facts H is closed under the nine rules.
+-- A set of facts H is closed under the nine rules, and with unit under the tenth.
 pub record Rules (s : Sheet) (H : Fact → Type 0) : Type 0 where
   -- 1. u: A sf A for each world and principal
   pub rule1 : (u a : ℕ) → u < s .worlds → a < s .principals → H (sf u a a)
@@ -37,6 +48,8 @@ pub record Rules (s : Sheet) (H : Fact → Type 0) : Type 0 where
   pub rule8 : (u v w : ℕ) → H (le u v) → H (le v w) → H (le u w)
   -- 9. u S_B v with v S_A w gives u S_A w
   pub rule9 : (u v w a b : ℕ) → H (by b u v) → H (by a v w) → H (by a u w)
+  -- 10. with unit, u S_A v gives u ≤ v
+  pub rule10 : (u v a : ℕ) → s .logic ≡ unit → H (by a u v) → H (le u v)
 
 -- A list of facts as a base: a fact among them,
 pub data Among : List Fact → Fact → Type 0 where
@@ -52,7 +65,7 @@ Named s (sf u a b) = (u < s .worlds) × (a < s .principals) × (b < s .principal
 pub data Basis (s : Sheet) (fs : List Fact) (f : Fact) : Type 0 where
   basis : Among fs f → Named s f → Basis s fs f
 
--- The facts that follow from a base: the base's own, and what the nine rules give. They hold nothing else (least such set).
+-- The facts that follow from a base: the base's own, and what the rules give. They hold nothing else (least such set).
 pub data Closed (s : Sheet) (base : Fact → Type 0) : Fact → Type 0 where
   given : {f : Fact} → base f → Closed s base f
   rule1 : {u a : ℕ} → u < s .worlds → a < s .principals → Closed s base (sf u a a)
@@ -64,6 +77,7 @@ pub data Closed (s : Sheet) (base : Fact → Type 0) : Fact → Type 0 where
   rule7 : {u : ℕ} → u < s .worlds → Closed s base (le u u)
   rule8 : {u v w : ℕ} → Closed s base (le u v) → Closed s base (le v w) → Closed s base (le u w)
   rule9 : {u v w a b : ℕ} → Closed s base (by b u v) → Closed s base (by a v w) → Closed s base (by a u w)
+  rule10 : {u v a : ℕ} → s .logic ≡ unit → Closed s base (by a u v) → Closed s base (le u v)
 
 -- `Closed` is closed under the rules,
 pub closed : (s : Sheet) (base : Fact → Type 0) → Rules s (Closed s base)
@@ -78,6 +92,7 @@ closed s base =
       rule7 = λ u p. rule7 p;
       rule8 = λ u v w p q. rule8 p q;
       rule9 = λ u v w a b p q. rule9 p q;
+      rule10 = λ u v a e p. rule10 e p;
     }
 
 -- and every set that is so and holds the base holds it whole: it is the least.
@@ -93,3 +108,4 @@ least r b (rule6 {u} {v} {w} {z} {a} p q o) = r .rule6 u v w z a (least r b p) (
 least r b (rule7 {u} p) = r .rule7 u p
 least r b (rule8 {u} {v} {w} p q) = r .rule8 u v w (least r b p) (least r b q)
 least r b (rule9 {u} {v} {w} {a} {b = c} p q) = r .rule9 u v w a c (least r b p) (least r b q)
+least r b (rule10 {u} {v} {a} e p) = r .rule10 u v a e (least r b p)

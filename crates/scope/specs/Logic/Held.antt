@@ -5,7 +5,7 @@ use mathlib.Core.Bool.{Bool, true, false}
 use mathlib.Core.List.{List, [], _∷_}
 use lib.Dec.{eqb, ltb}
 use Rattle.scope.specs.Logic.Form.{both, either}
-use Rattle.scope.specs.Logic.Facts.{Fact, le, by, sf, Sheet}
+use Rattle.scope.specs.Logic.Facts.{Fact, le, by, sf, Logic, plain, unit, Sheet}
 
 -- An edge from a number to a number: of worlds, or of principals.
 pub data Edge : Type 0 where
@@ -36,6 +36,12 @@ linksOf (le u v ∷ fs) = edge u v ∷ linksOf fs
 linksOf (by a u v ∷ fs) = edge u v ∷ linksOf fs
 linksOf (sf u a b ∷ fs) = linksOf fs
 
+-- What leads up from world to world: the given u ≤ v, and with unit the given u S_A v too (rule 10).
+unfoldable pub upsOf : Logic → List Fact → List Edge
+unfolding lesOf linksOf
+upsOf plain fs = lesOf fs
+upsOf unit fs = linksOf fs
+
 abbrev pub addIf : Bool → Edge → List Edge → List Edge
 addIf true e es = e ∷ es
 addIf false e es = es
@@ -48,7 +54,7 @@ pairsAt links u (le x v ∷ fs) = pairsAt links u fs
 pairsAt links u (by a x v ∷ fs) = pairsAt links u fs
 pairsAt links u (sf x a b ∷ fs) = addIf (way links x u) (edge a b) (pairsAt links u fs)
 
--- Some x S_B w is given, to which links lead from u, with x: A sf B, and z is w or stands above it by the given ≤.
+-- Some x S_B w is given, to which links lead from u, with x: A sf B, and z is w or stands above it by what leads up.
 unfoldable pub reaches : List Fact → List Edge → List Edge → ℕ → ℕ → ℕ → List Fact → Bool
 unfolding way pairsAt both either
 reaches all links les a u z [] = false
@@ -75,11 +81,11 @@ named s (f ∷ fs) = keepIf (isNamed s f) f (named s fs)
 
 -- Does the fact follow from such facts?
 unfoldable pub follows : Sheet → List Fact → Fact → Bool
-unfolding path lesOf linksOf pairsAt reaches both either
-follows s fs (le u v) = either (both (eqb u v) (ltb u (s .worlds))) (path (lesOf fs) u v)
+unfolding path upsOf linksOf pairsAt reaches both either
+follows s fs (le u v) = either (both (eqb u v) (ltb u (s .worlds))) (path (upsOf (s .logic) fs) u v)
 follows s fs (sf u a b) =
     either (both (eqb a b) (both (ltb u (s .worlds)) (ltb a (s .principals)))) (path (pairsAt (linksOf fs) u fs) a b)
-follows s fs (by a u z) = reaches fs (linksOf fs) (lesOf fs) a u z fs
+follows s fs (by a u z) = reaches fs (linksOf fs) (upsOf (s .logic) fs) a u z fs
 
 -- For a sheet and the given facts: is the fact one of the closed ones?
 unfoldable pub holds : Sheet → List Fact → Fact → Bool
@@ -87,7 +93,7 @@ unfolding follows named
 holds s fs f = follows s (named s fs) f
 
 abbrev sheet : ℕ → ℕ → Sheet
-sheet n k = record { worlds = n; principals = k }
+sheet n k = record { worlds = n; principals = k; logic = plain }
 
 -- P1's sixth step needs 0 S_1 1, and has it of 0 S_0 1 and 0: 1 sf 0 by rule 2.
 p1-seen : holds (sheet 2 2) (by 0 0 1 ∷ sf 0 1 0 ∷ []) (by 1 0 1) ≡ true
@@ -118,6 +124,26 @@ unseen :
     ≡ false ∷ false ∷ false ∷ false ∷ []
 unfolding holds
 unseen = refl
+
+-- With unit S is ≤, and what it leads to is seen by whoever saw its beginning; but not the other way round, and ≤ is still no S.
+abbrev unitSheet : ℕ → ℕ → Sheet
+unitSheet n k = record { worlds = n; principals = k; logic = unit }
+
+unit-seen :
+    holds (unitSheet 2 1) (by 0 0 1 ∷ []) (le 0 1) ∷
+    holds (unitSheet 3 2) (by 1 1 2 ∷ by 0 0 1 ∷ []) (le 0 2) ∷
+    holds (unitSheet 3 2) (by 1 1 2 ∷ by 0 0 1 ∷ []) (by 0 0 2) ∷
+    holds (unitSheet 2 1) (by 0 0 1 ∷ []) (le 1 0) ∷
+    holds (unitSheet 2 1) (le 0 1 ∷ []) (by 0 0 1) ∷
+    holds (unitSheet 3 2) (by 1 1 2 ∷ by 0 0 1 ∷ []) (by 0 1 2) ∷
+    []
+    ≡ true ∷ true ∷ true ∷ false ∷ false ∷ false ∷ []
+unfolding holds
+unit-seen = refl
+
+plain-unseen : holds (sheet 3 2) (by 1 1 2 ∷ by 0 0 1 ∷ []) (by 0 0 2) ≡ false
+unfolding holds
+plain-unseen = refl
 
 -- A fact about a world that there is not counts for nothing.
 unnamed : holds (sheet 1 1) (by 0 0 5 ∷ []) (by 0 0 5) ≡ false

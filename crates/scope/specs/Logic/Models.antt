@@ -4,6 +4,7 @@ use mathlib.Core.Path.{_≡_}
 use mathlib.Core.Bool.{Bool, true}
 use mathlib.Core.List.{List, [], _∷_}
 use mathlib.Core.Logic.{_⊎_}
+use Rattle.scope.specs.Logic.Facts.{Logic, unit}
 use Rattle.scope.specs.Logic.Form.{Form, atom, top, bot, and, or, imp, says, sf}
 
 -- A model is a tuple (W, ≤, {S_A}, h, sf). The worlds are the numbers below `worlds`.
@@ -51,6 +52,15 @@ pub record Frame (k n : ℕ) (m : Model) : Type 0 where
   pub mon-sf : (a b x y : ℕ) → a < k → b < k → x < m .worlds → y < m .worlds →
       Future m k x y → m .speaks a b x ≡ true → m .speaks a b y ≡ true
 
+-- (unit) x S_A y gives x ≤ y: the condition of document 004, for k principals.
+abbrev pub Within : ℕ → Model → Type 0
+Within k m = (a x y : ℕ) → a < k → x < m .worlds → y < m .worlds → m .acc a x y ≡ true → m .le x y ≡ true
+
+-- The models of a logic: those of Definition 1, and with unit those of them that meet the condition.
+pub record ModelOf (l : Logic) (k n : ℕ) (m : Model) : Type 0 where
+  pub frame : Frame k n m
+  pub within : l ≡ unit → Within k m
+
 -- Sat m w f: the world w satisfies the formula f in the model m.
 unfoldable pub Sat : Model → ℕ → Form → Type 0
 Sat m w (atom p) = m .h p w ≡ true
@@ -68,7 +78,7 @@ unfolding Sat
 SatAll m w [] = Unit
 SatAll m w (f ∷ fs) = Sat m w f × SatAll m w fs
 
--- In every model over k principals and n atoms, at each world where every formula of the policy holds, the goal holds.
-unfoldable pub Entailed : ℕ → ℕ → List Form → Form → Type 0
+-- In every model of the logic over k principals and n atoms, at each world where every formula of the policy holds, the goal holds.
+unfoldable pub Entailed : Logic → ℕ → ℕ → List Form → Form → Type 0
 unfolding Sat SatAll
-Entailed k n policy goal = (m : Model) → Frame k n m → (w : ℕ) → w < m .worlds → SatAll m w policy → Sat m w goal
+Entailed l k n policy goal = (m : Model) → ModelOf l k n m → (w : ℕ) → w < m .worlds → SatAll m w policy → Sat m w goal

@@ -4,7 +4,7 @@ use mathlib.Core.List.{List, [], _∷_, _++_, map}
 use lib.ListN.{getD}
 use Rattle.scope.specs.Logic.Form as F
 use Rattle.scope.specs.Logic.Form.{Form}
-use Rattle.scope.specs.Logic.Facts.{Fact, sf, Sheet, grown}
+use Rattle.scope.specs.Logic.Facts.{Fact, sf, Logic, Sheet, grown}
 use Rattle.scope.specs.File.Request.{Row}
 
 -- A formula at a world.
@@ -120,12 +120,12 @@ rootFacts [] = []
 rootFacts (f ∷ fs) = factOf f (rootFacts fs)
 
 -- The first obligation: world 0 is the root, and every policy line is labelled with it.
-unfoldable pub start : ℕ → List Form → Form → Obligation
+unfoldable pub start : Logic → ℕ → List Form → Form → Obligation
 unfolding rootFacts
-start k policy g =
+start l k policy g =
     ob
     (record {
-      sheet = record { worlds = 1; principals = k };
+      sheet = record { worlds = 1; principals = k; logic = l };
       facts = rootFacts policy;
       clauses = map (λ (f : Form). lab f 0) policy;
     })

@@ -3,6 +3,7 @@ use Prim.Native.Nat.{ℕ, zero, suc, _+_, _-_}
 use mathlib.Core.Path.{_≡_, refl}
 use mathlib.Core.List.{List, [], _∷_, _++_, map}
 use lib.ListN.{replicate}
+use Rattle.scope.specs.Logic.Facts.{plain}
 use Rattle.scope.specs.Call.Answer.{Answer, answer}
 use Rattle.scope.specs.File.Request.{Row, Request}
 use Rattle.scope.specs.File.Bytes.{bytes}
@@ -51,7 +52,7 @@ drop′ = row 16 0 0
 
 abbrev pub request : List Row → List ℕ → ℕ → List Row → Request
 request forms lines goal steps =
-    record { principals = 1; atoms = 1; forms = forms; policy = lines; goal = goal; steps = steps }
+    record { version = 1; logic = plain; principals = 1; atoms = 1; forms = forms; policy = lines; goal = goal; steps = steps }
 
 -- Goal `top` under n nested `says`: n worlds beside the root.
 unfoldable pub nested : ℕ → Request
@@ -123,8 +124,8 @@ texts =
     bytes "" ∷
     -- CR LF
     bytes "version=1\r\n" ∷
-    -- a version other than 1
-    bytes "version=2\n" ∷
+    -- a version above 2
+    bytes "version=3\n" ∷
     -- principals 1 to 16
     bytes "version=1\nprincipals=0\n" ∷
     bytes "version=1\nprincipals=17\n" ∷

@@ -7,7 +7,7 @@ use Rattle.scope.specs.File.Bytes.{bytes}
 use Rattle.scope.specs.File.Line.{lineStop}
 use Rattle.scope.specs.File.Text.{numberLine, rowLine}
 use Rattle.scope.specs.File.Stops.{digitsStop, endStop}
-use Rattle.scope.specs.File.Kinds.{Kind, kind, kindsStop, formKinds, stepKinds}
+use Rattle.scope.specs.File.Kinds.{Kind, kindsStop, formKinds, stepKinds, logicKinds}
 
 -- A key, for a row the table of kinds, a text that begins at the line, and the column.
 pub data Case : Type 0 where
@@ -23,12 +23,8 @@ abbrev pub said : Case → ℕ
 said (numbered key text n) = n
 said (worded key ks text n) = n
 
--- Words with no operand.
-abbrev pub logicKinds : List Kind
-logicKinds = kind "plain" [] ∷ kind "unit" [] ∷ []
-
 unfoldable pub cases : List Case
-unfolding formKinds stepKinds
+unfolding formKinds stepKinds logicKinds
 cases =
     -- the first byte that cannot follow, also where the file then ends without LF; an empty file, an empty line, a line that is missing
     numbered "version=" "versj" 5 ∷

@@ -4,6 +4,7 @@ use Prim.Native.Nat.{ℕ}
 use mathlib.Core.Path.{_≡_, refl}
 use mathlib.Core.List.{List, [], _∷_, _++_, map}
 use lib.ListN.{replicate}
+use Rattle.scope.specs.Logic.Facts.{Logic, plain, unit}
 use Rattle.scope.specs.Call.Answer.{told, answer}
 use Rattle.scope.specs.File.Bytes.{bytes}
 use Rattle.scope.specs.File.Reader.{refused}
@@ -12,10 +13,12 @@ use Rattle.scope.specs.Call.Checked.{checked}
 use Rattle.scope.specs.Call.Calls.{reading, outcomeAnswer, lentAfter, writing, writtenAnswer}
 use Rattle.scope.specs.Call.Judge.{judge}
 
--- One principal, one atom, no policy lines; tables of these lengths, the numbers given and then zeros.
-abbrev pub lent : ℕ → ℕ → ℕ → ℕ → ℕ → ℕ → List ℕ → List ℕ → List ℕ → Lent
-lent forms lines steps formulas goal count f l s =
+-- One principal, one atom, no policy lines; tables of these lengths, the numbers given and then zeros. Told with version and logic,
+abbrev pub lentAs : ℕ → Logic → ℕ → ℕ → ℕ → ℕ → ℕ → ℕ → List ℕ → List ℕ → List ℕ → Lent
+lentAs version logic forms lines steps formulas goal count f l s =
     record {
+      version = version;
+      logic = logic;
       principals = 1;
       atoms = 1;
       formulas = formulas;
@@ -26,6 +29,10 @@ lent forms lines steps formulas goal count f l s =
       policyTable = padded lines l;
       stepTable = padded steps s;
     }
+
+-- or as version 1.
+abbrev pub lent : ℕ → ℕ → ℕ → ℕ → ℕ → ℕ → List ℕ → List ℕ → List ℕ → Lent
+lent = lentAs 1 plain
 
 -- 13 before 1: a file of a byte too many, into a table too short by one, and into tables with room.
 pub room-before-length :
@@ -117,6 +124,8 @@ pub what-is-read :
     (bytes
     "version=1\nprincipals=3\natoms=5\nformulas=4\nform=p 4\nform=sf 1 2\nform=says 2 0\nform=and 2 0\nclauses=2\nclause=1\nclause=2\ngoal=3\nsteps=3\nstep=and\nstep=use 7\nstep=note\n"))
     ≡ record {
+      version = 1;
+      logic = plain;
       principals = 3;
       atoms = 5;
       formulas = 4;
@@ -135,6 +144,8 @@ pub nothing-is-read :
     (k place column : ℕ)
     → lentAfter 3 2 4 (refused (told k place column))
     ≡ record {
+      version = 0;
+      logic = plain;
       principals = 0;
       atoms = 0;
       formulas = 0;

@@ -15,24 +15,24 @@ use Rattle.machine.proofs.walking.run_steps.Statement.{statement}
 use Rattle.machine.proofs.walking.run_steps.Tie as tie
 
 abbrev Inv-loop : tie.InvT-loop
-Inv-loop forms steps total rows₀ clauses₀ ats₀ stack₀ chunks₀ saved₀ opened₀ i₀ rows clauses ats stack chunks saved opened i =
+Inv-loop forms steps unit total rows₀ clauses₀ ats₀ stack₀ chunks₀ saved₀ opened₀ i₀ rows clauses ats stack chunks saved opened i =
     (i ≤ total) × (opened ≤ mostOpen) × (length stack ≡ places) ×
-    (ranFrom forms steps total 0 (stateOf rows₀ (stackOf stack₀ chunks₀ saved₀) opened₀ clauses₀ ats₀) ≡
-    ranFrom forms steps (total - i) i (stateOf rows (stackOf stack chunks saved) opened clauses ats))
+    (ranFrom unit forms steps total 0 (stateOf rows₀ (stackOf stack₀ chunks₀ saved₀) opened₀ clauses₀ ats₀) ≡
+    ranFrom unit forms steps (total - i) i (stateOf rows (stackOf stack chunks saved) opened clauses ats))
 
 abbrev μ-loop : tie.MeasureT-loop
-μ-loop forms steps total rows₀ clauses₀ ats₀ stack₀ chunks₀ saved₀ opened₀ i₀ rows clauses ats stack chunks saved opened i =
+μ-loop forms steps unit total rows₀ clauses₀ ats₀ stack₀ chunks₀ saved₀ opened₀ i₀ rows clauses ats stack chunks saved opened i =
     total - i
 
 loop-holds : tie.Need-loop-holds Inv-loop μ-loop
-loop-holds c = (omega arith, omega arith, refl, at-first _ _ _ _)
+loop-holds c = (omega arith, omega arith, refl, at-first _ _ _ _ _)
 
 refused-at-requires : tie.Need-refused-at-requires Inv-loop μ-loop
 refused-at-requires c κs = search needs
 
 returns : tie.Need-returns Inv-loop μ-loop
 returns c = let late : c .before .before .before .loop .i < c .before .before .before .before .before .before .args .total = omega arith in
-    c .refused-at .ensures ∙ sym (c .before .before .before .loop .inv .3 ∙ turn-late _ _ _ _ _ late (c .before .if1 .taken))
+    c .refused-at .ensures ∙ sym (c .before .before .before .loop .inv .3 ∙ turn-late _ _ _ _ _ _ late (c .before .if1 .taken))
 
 sub-place : tie.Need-sub-place Inv-loop μ-loop
 sub-place c = omega arith
@@ -73,7 +73,7 @@ returns-2 c = let l = c .before .before .before .before .before .before .before 
     let s : State = stateOf (l .rows) (stackOf (l .stack) (l .chunks) (l .saved)) (l .opened) (l .clauses) (l .ats) in
     c .refused-at2 .ensures ∙
     sym (l .inv .3 ∙
-    turn-no (a .forms .now) (a .steps .now) (a .total) (l .i) s _ _ _ early some
+    turn-no (a .unit) (a .forms .now) (a .steps .now) (a .total) (l .i) s _ _ _ early some
     (judged-is (a .forms .now) s _ _ _ _ (read-at s (l .opened - 1) _ _ refl inside) (c .before .before .before .before .before .before .before .before .top-chunk .ensures) (c .before .before .before .before .judge-now .ensures))
     (c .before .before .enum-told .given .1) (c .before .number-in .ensures))
 
@@ -117,7 +117,7 @@ array-set-from-stack-2 : tie.Need-array-set-from-stack-2 Inv-loop μ-loop
 array-set-from-stack-2 c = omega (arith, c .before .before .before .before .before .before .before .before .before .before .before .before .before .before .before .before .before .before .before .before .before .before .before .before .loop .inv .1, c .before .before .before .before .before .before .before .before .before .before .before .before .before .before .before .before .before .before .before .before .before .before .before .before .loop .inv .2)
 
 add-i : tie.Need-add-i Inv-loop μ-loop
-add-i c = omega (arith, c .before .before .before .before .before .before .before .before .before .before .before .before .before .before .before .before .before .before .before .before .before .before .before .loop-test .taken, c .before .before .before .before .before .before .before .before .before .before .before .before .before .before .before .before .before .before .before .before .before .before .before .before .before .before .before .good .1 .1 .0)
+add-i c = omega (arith, c .before .before .before .before .before .before .before .before .before .before .before .before .before .before .before .before .before .before .before .before .before .before .before .loop-test .taken, c .before .before .before .before .before .before .before .before .before .before .before .before .before .before .before .before .before .before .before .before .before .before .before .before .before .before .before .good .1 .1 .1 .0)
 
 loop-less : tie.Need-loop-less Inv-loop μ-loop
 loop-less c = omega (arith, c .before .before .before .before .before .before .before .before .before .before .before .before .before .before .before .before .before .before .before .before .before .before .before .loop-test .taken)
@@ -139,7 +139,7 @@ loop-again c = let t = c .before .before .before .before .before .before .before
       omega (arith, early),
       made-room _ _ _ _ _ _ _ change (fits-room _ _ _ _ _ _ _ _ _ _ _ _ judged fits) (l .inv .1),
       simp length-set (l .inv .2),
-      turn-on (a .forms .now) (a .steps .now) (a .total) (l .i) s _ _ _ _ _ _ _ _ _ _ _ _ (l .inv .3) early some judged fits
+      turn-on (a .unit) (a .forms .now) (a .steps .now) (a .total) (l .i) s _ _ _ _ _ _ _ _ _ _ _ _ (l .inv .3) early some judged fits
           (record {
             this = read-at s (l .opened - 1) _ _ refl inside;
             topmost = t .before .before .before .before .before .before .before .before .before .top-chunk .ensures;
@@ -161,7 +161,7 @@ returns-3 c = let l = c .before .before .loop in
     let a = c .before .before .before .before .before .args in
     let done : a .total ≡ l .i = omega arith in
     let last : a .total ≤ l .i = omega arith in
-    c .end-at .ensures ∙ ap (endedAt (l .opened)) done ∙ sym (l .inv .3 ∙ ended _ _ _ _ _ last)
+    c .end-at .ensures ∙ ap (endedAt (l .opened)) done ∙ sym (l .inv .3 ∙ ended _ _ _ _ _ _ last)
 
 pub run-steps-spec : {M : Type 1} → statement M
 run-steps-spec =

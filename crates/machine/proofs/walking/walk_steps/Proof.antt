@@ -18,7 +18,7 @@ run-steps-requires c κs = search needs
 
 returns : tie.Need-returns
 returns c = let a = c .before .before .before .before .before .before .before .before .before .before .before .before .args in
-    ran-is (a .forms .now) (a .lines .now) (a .steps .now) (a .count) (a .goal) (a .total) _ _ _ _
+    ran-is (a .unit) (a .forms .now) (a .lines .now) (a .steps .now) (a .count) (a .goal) (a .total) _ _ _ _
     (c .before .before .before .before .before .before .before .note-lines .ensures) (c .before .before .before .before .before .put-lines .ensures) (c .before .before .before .before .first-one .ensures) (c .run-steps .ensures)
 
 pub walk-steps-spec : {M : Type 1} → statement M
