@@ -30,7 +30,7 @@ pub(crate) fn note_lines(rows: &mut [Row; ROWS], forms: &[u16], lines: &[u16], c
     let mut left = count as usize;
     while 0 < left {
         left -= 1;
-        let f = judging::entry(lines, left);
+        let f = common::entry_at(lines, left);
         note_line(rows, forms, f);
     }
 }
@@ -41,7 +41,7 @@ pub(crate) fn put_lines(clauses: &mut [u16; CLAUSES], lines: &[u16], count: u16)
     let mut left = count as usize;
     while 0 < left {
         left -= 1;
-        let f = judging::entry(lines, left);
+        let f = common::entry_at(lines, left);
         changes::put_entry(clauses, left, f);
     }
 }

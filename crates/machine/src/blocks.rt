@@ -14,7 +14,6 @@ use facts::PRINCIPALS;
 use facts::ROWS;
 use facts::Row;
 use moves::Move;
-use moves::judging;
 use steps::MOST_OPEN;
 use steps::Principal;
 use steps::World;
@@ -84,7 +83,7 @@ pub(crate) fn top_chunk(chunks: &[u16; HELD], place: u16, o: Obligation) -> u16
 {
     let i = changes::top_place(o);
     let at = entry_of(place, i);
-    judging::entry(chunks, at)
+    common::entry_at(chunks, at)
 }
 
 fn put_chunk(chunks: &mut [u16; HELD], place: u16, i: u16, f: u16)

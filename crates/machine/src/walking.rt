@@ -26,8 +26,8 @@ fn step_at(steps: &[u16], i: u16) -> Step
     ensures { λ r. ⌜ r ≡ stepIn (now (steps .entry)) i ⌝ }
 {
     let at = i as usize * 2;
-    let kind = judging::entry(steps, at);
-    let number = judging::entry(steps, at + 1);
+    let kind = common::entry_at(steps, at);
+    let number = common::entry_at(steps, at + 1);
     steps::step_of(kind, number)
 }
 

@@ -1,6 +1,5 @@
 // A step on the current obligation, by its phase.
 ghost use mathlib.Core.Path.{_≡_};
-ghost use lib.ListN.{getD};
 ghost use Rattle.moves.specs.Judge.{rowAt, findClause, useClause, goalStep, focusStep, chunkStep, judgeStep};
 use crate::Found;
 use crate::Judged;
@@ -19,20 +18,13 @@ use steps::World;
 // The clauses of a sequent by their numbers, policy lines first; one place more, which is never read.
 pub const CLAUSES: usize = MOST_CLAUSES as usize + 1;
 
-// An entry of a table, 0 past its end.
-pub fn entry(t: &[u16], i: usize) -> u16
-    ensures { λ r. ⌜ r ≡ getD (now (t .entry)) i 0 ⌝ }
-{
-    if i < t.len() { t[i] } else { 0 }
-}
-
 pub fn row_at(forms: &[u16], f: u16) -> Row
     ensures { λ r. ⌜ r ≡ rowAt (now (forms .entry)) f ⌝ }
 {
     let at = f as usize * 3;
-    let kind = entry(forms, at);
-    let left = entry(forms, at + 1);
-    let right = entry(forms, at + 2);
+    let kind = common::entry_at(forms, at);
+    let left = common::entry_at(forms, at + 1);
+    let right = common::entry_at(forms, at + 2);
     Row {
         kind: kind,
         left: left,
@@ -54,8 +46,8 @@ fn find_clause(
         return Found::Nothing;
     }
     let i = n.0 as usize;
-    let f = entry(clauses, i);
-    let u = entry(ats, i);
+    let f = common::entry_at(clauses, i);
+    let u = common::entry_at(ats, i);
     let r = row_at(forms, f);
     if r.kind == 7 {
         return Found::Nothing;

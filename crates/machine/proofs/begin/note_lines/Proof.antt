@@ -23,8 +23,8 @@ loop-holds c = refl
 sub-left : tie.Need-sub-left Inv-loop μ-loop
 sub-left c = omega arith
 
-entry-requires : tie.Need-entry-requires Inv-loop μ-loop
-entry-requires c κs = search needs
+entry-at-requires : tie.Need-entry-at-requires Inv-loop μ-loop
+entry-at-requires c κs = search needs
 
 note-line-requires : tie.Need-note-line-requires Inv-loop μ-loop
 note-line-requires c κs = search needs
@@ -34,7 +34,7 @@ loop-less c = omega arith
 
 loop-again : tie.Need-loop-again Inv-loop μ-loop
 loop-again c = let some : 0 < c .before .before .before .before .loop .left = omega arith in
-    line-noted _ _ _ _ _ _ some (c .before .before .entry .ensures) (c .note-line .ensures) ∙ c .before .before .before .before .loop .inv
+    line-noted _ _ _ _ _ _ some (c .before .before .entry-at .ensures) (c .note-line .ensures) ∙ c .before .before .before .before .loop .inv
 
 returns : tie.Need-returns Inv-loop μ-loop
 returns c = let none : c .before .loop .left ≡ 0 = omega arith in
@@ -49,7 +49,7 @@ note-lines-spec =
     root-rows-requires
     loop-holds
     sub-left
-    entry-requires
+    entry-at-requires
     note-line-requires
     loop-less
     loop-again

@@ -20,8 +20,8 @@ loop-holds c = refl
 sub-left : tie.Need-sub-left Inv-loop μ-loop
 sub-left c = omega arith
 
-entry-requires : tie.Need-entry-requires Inv-loop μ-loop
-entry-requires c κs = search needs
+entry-at-requires : tie.Need-entry-at-requires Inv-loop μ-loop
+entry-at-requires c κs = search needs
 
 put-entry-requires : tie.Need-put-entry-requires Inv-loop μ-loop
 put-entry-requires c κs = search needs
@@ -31,7 +31,7 @@ loop-less c = omega arith
 
 loop-again : tie.Need-loop-again Inv-loop μ-loop
 loop-again c = let some : 0 < c .before .before .before .before .loop .left = omega arith in
-    line-put _ _ _ _ _ some (c .before .before .entry .ensures) (c .put-entry .ensures) ∙ c .before .before .before .before .loop .inv
+    line-put _ _ _ _ _ some (c .before .before .entry-at .ensures) (c .put-entry .ensures) ∙ c .before .before .before .before .loop .inv
 
 returns : tie.Need-returns Inv-loop μ-loop
 returns c = let none : c .before .loop .left ≡ 0 = omega arith in
@@ -45,7 +45,7 @@ put-lines-spec =
     μ-loop
     loop-holds
     sub-left
-    entry-requires
+    entry-at-requires
     put-entry-requires
     loop-less
     loop-again

@@ -10,12 +10,12 @@ top-place-requires c κs = search needs
 entry-of-requires : tie.Need-entry-of-requires
 entry-of-requires c κs = search needs
 
-entry-requires : tie.Need-entry-requires
-entry-requires c κs = search needs
+entry-at-requires : tie.Need-entry-at-requires
+entry-at-requires c κs = search needs
 
 returns : tie.Need-returns
 unfolding topChunk
-returns c = rw (c .before .before .entry-of .ensures, c .before .before .before .top-place .ensures) at (c .entry .ensures)
+returns c = rw (c .before .before .entry-of .ensures, c .before .before .before .top-place .ensures) at (c .entry-at .ensures)
 
 pub top-chunk-spec : {M : Type 1} → statement M
-top-chunk-spec = tie.close (tie.spec top-place-requires entry-of-requires entry-requires returns)
+top-chunk-spec = tie.close (tie.spec top-place-requires entry-of-requires entry-at-requires returns)

@@ -1,4 +1,4 @@
--- The number is tested first; then the two entries and the row's kind are the definition's, as `entry` and `row_at` ensure.
+-- The number is tested first; then the two entries and the row's kind are the definition's, as `entry_at` and `row_at` ensure.
 use mathlib.Core.Path.{ap}
 use borrow.Author.Needs.{needs}
 use Rattle.moves.specs.declared.Row.{Row}
@@ -14,11 +14,11 @@ returns c = search tests
 cast-i : tie.Need-cast-i
 cast-i c = search needs
 
-entry-requires : tie.Need-entry-requires
-entry-requires c κs = search needs
+entry-at-requires : tie.Need-entry-at-requires
+entry-at-requires c κs = search needs
 
-entry-requires-2 : tie.Need-entry-requires-2
-entry-requires-2 c κs = search needs
+entry-at-requires-2 : tie.Need-entry-at-requires-2
+entry-at-requires-2 c κs = search needs
 
 row-at-requires : tie.Need-row-at-requires
 row-at-requires c κs = search needs
@@ -27,8 +27,8 @@ returns-2 : tie.Need-returns-2
 unfolding findClause rowAt
 returns-2 c =
     rw (
-      ← c .before .before .before .before .before .entry .ensures,
-      ← c .before .before .before .entry2 .ensures,
+      ← c .before .before .before .before .before .entry-at .ensures,
+      ← c .before .before .before .entry-at2 .ensures,
       ← ap (λ (r : Row). r .kind) (c .before .before .row-at .ensures),
     )
     (search tests)
@@ -37,8 +37,8 @@ returns-3 : tie.Need-returns-3
 unfolding findClause rowAt
 returns-3 c =
     rw (
-      ← c .before .before .before .before .before .entry .ensures,
-      ← c .before .before .before .entry2 .ensures,
+      ← c .before .before .before .before .before .entry-at .ensures,
+      ← c .before .before .before .entry-at2 .ensures,
       ← ap (λ (r : Row). r .kind) (c .before .before .row-at .ensures),
     )
     (search tests)
@@ -46,4 +46,4 @@ returns-3 c =
 pub find-clause-spec : {M : Type 1} → statement M
 find-clause-spec =
     tie.close
-    (tie.spec returns cast-i entry-requires entry-requires-2 row-at-requires returns-2 returns-3)
+    (tie.spec returns cast-i entry-at-requires entry-at-requires-2 row-at-requires returns-2 returns-3)
