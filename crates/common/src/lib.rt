@@ -2,7 +2,7 @@
 // of every call, and what stands at a place of a table.
 ghost use mathlib.Core.Path.{_≡_};
 ghost use Prim.Native.Nat.{suc};
-ghost use lib.ListN.{getD};
+ghost use lib.ListN.{getD, set};
 ghost use Rattle.scope.specs.Call.Tables.{hasRoom};
 ghost use Rattle.scope.specs.Limits.{versionAt, logicAt, extraLines, principalsAt, atomsAt, formulasAt, formAt, clausesAt, clauseAt, goalAt, stepsAt, stepAt, endAt};
 
@@ -164,4 +164,13 @@ pub fn byte_at(bytes: &[u8], at: usize) -> u8
     ensures { λ r. ⌜ r ≡ getD (now (bytes .entry)) at 0 ⌝ }
 {
     if at < bytes.len() { bytes[at] } else { 0 }
+}
+
+// A store past the end of a table changes nothing.
+pub fn put_entry(table: &mut [u16], at: usize, value: u16)
+    ensures { λ _. ⌜ now (table .exit) ≡ set (now (table .entry)) at value ⌝ }
+{
+    if at < table.len() {
+        table[at] = value;
+    }
 }

@@ -3,7 +3,6 @@ ghost use mathlib.Core.Path.{_≡_};
 ghost use Rattle.facts.specs.Rows.{rootRows};
 ghost use Rattle.machine.specs.Machine.{lineNoted, linesNoted, linesPut, first};
 use crate::Obligation;
-use crate::changes;
 use facts::ROWS;
 use facts::Row;
 use moves::Lab;
@@ -42,7 +41,7 @@ pub(crate) fn put_lines(clauses: &mut [u16; CLAUSES], lines: &[u16], count: u16)
     while 0 < left {
         left -= 1;
         let f = common::entry_at(lines, left);
-        changes::put_entry(clauses, left, f);
+        common::put_entry(clauses, left, f);
     }
 }
 

@@ -90,7 +90,7 @@ fn put_chunk(chunks: &mut [u16; HELD], place: u16, i: u16, f: u16)
     ensures { λ _. ⌜ now (chunks .exit) ≡ set (now (chunks .entry)) (place * mostChunks + i) f ⌝ }
 {
     let at = entry_of(place, i);
-    changes::put_entry(chunks, at, f);
+    common::put_entry(chunks, at, f);
 }
 
 // Two chunks in the topmost one's place, f on top of h.

@@ -1,7 +1,6 @@
 // What a move makes of the current obligation.
 ghost use mathlib.Core.Path.{_≡_};
 ghost use Prim.Native.Nat.{_+_, _-_, _<_};
-ghost use lib.ListN.{set};
 ghost use Rattle.scope.specs.Limits.{mostWorlds, mostClauses, mostOpen, mostChunks};
 ghost use Rattle.machine.specs.Change.{lab, labAt, chunkCount, goalIn, behind, here, aimed, withPhase, withClauses, popped, oneMore, newWorld, alone, fork, changeOf};
 ghost use Rattle.machine.specs.Room.{room};
@@ -17,15 +16,6 @@ pub(crate) fn less_by(n: u16, k: u16) -> u16
     ensures { λ r. ⌜ r ≡ n - k ⌝ }
 {
     if k <= n { n - k } else { 0 }
-}
-
-// A store past the end of a table changes nothing.
-pub(crate) fn put_entry(t: &mut [u16], i: usize, x: u16)
-    ensures { λ _. ⌜ now (t .exit) ≡ set (now (t .entry)) i x ⌝ }
-{
-    if i < t.len() {
-        t[i] = x;
-    }
 }
 
 pub(crate) fn chunk_count(phase: Phase) -> u16

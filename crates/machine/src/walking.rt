@@ -88,8 +88,8 @@ fn put_clause(clauses: &mut [u16; CLAUSES], ats: &mut [u16; CLAUSES], o: Obligat
     let phase = o.phase;
     let g = changes::goal_in(phase);
     let u = g.at;
-    changes::put_entry(clauses, n, top);
-    changes::put_entry(ats, n, u.0);
+    common::put_entry(clauses, n, top);
+    common::put_entry(ats, n, u.0);
 }
 
 // The answer where no step is left.

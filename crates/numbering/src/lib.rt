@@ -2,7 +2,6 @@
 // each row in turn is looked for and, where it is not there, kept.
 ghost use mathlib.Core.Path.{_≡_};
 ghost use Prim.Native.Nat.{min};
-ghost use lib.ListN.{set};
 ghost use Rattle.scope.specs.Limits.{mostFormulas};
 ghost use Rattle.scope.specs.Call.Tables.{unpack, formEntry};
 ghost use Rattle.refusals.specs.Rows.{row};
@@ -84,15 +83,6 @@ pub fn find_row(forms: &[u16], slots: &[u16; SLOTS], kind: u16, left: u16, right
     Place::Free(slot)
 }
 
-// A store past the end changes nothing.
-fn put_entry(table: &mut [u16], at: usize, value: u16)
-    ensures { λ _. ⌜ now (table .exit) ≡ set (now (table .entry)) at value ⌝ }
-{
-    if at < table.len() {
-        table[at] = value;
-    }
-}
-
 // Keeps row number i at the place at which it was looked for.
 pub fn keep_row(slots: &mut [u16; SLOTS], place: Place, i: u16)
     ensures { λ _. ⌜ now (slots .exit) ≡ keptAt place i (now (slots .entry)) ⌝ }
@@ -101,7 +91,7 @@ pub fn keep_row(slots: &mut [u16; SLOTS], place: Place, i: u16)
         return;
     };
     if i < 1024 {
-        put_entry(slots, slot, i + 1);
+        common::put_entry(slots, slot, i + 1);
     }
 }
 

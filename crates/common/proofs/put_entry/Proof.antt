@@ -1,9 +1,9 @@
--- `numbering::put_entry` meets its contract: a store past the end changes nothing.
+-- `common::put_entry` meets its contract: a store past the end changes nothing.
 use borrow.Author.Needs.{needs}
 use lib.Seq.{set-out}
 use mathlib.Core.Path.{sym}
-use Rattle.numbering.proofs.put_entry.Statement.{statement}
-use Rattle.numbering.proofs.put_entry.Tie as tie
+use Rattle.common.proofs.put_entry.Statement.{statement}
+use Rattle.common.proofs.put_entry.Tie as tie
 
 mul-table : tie.Need-mul-table
 mul-table c = search needs
