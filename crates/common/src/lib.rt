@@ -21,6 +21,14 @@ pub const MOST_POLICY_LINES: u16 = 128;
 
 pub const MOST_STEPS: u16 = 2048;
 
+pub const MOST_WORLDS: u16 = 64;
+
+pub const MOST_CLAUSES: u16 = 256;
+
+pub const MOST_OPEN: u16 = 256;
+
+pub const MOST_CHUNKS: u16 = 16;
+
 pub const MOST_STEP_NUMBER: u32 = 65535;
 
 // The room of each lent table: 3 numbers a formula, 1 a policy line, 2 a step.

@@ -6,8 +6,8 @@ ghost use Rattle.scope.specs.Logic.Facts.{le, by, sf};
 ghost use Rattle.facts.specs.Bits.{when};
 ghost use Rattle.facts.specs.Rows.{rowAt, bitOf, oneBit, byRow, sfRow, told};
 ghost use Rattle.facts.specs.Rows.{sfRows, putSf, speaksIn, rootRows, newWorld, grownLe, grownBy, noted};
-use steps::MOST_PRINCIPALS;
-use steps::MOST_WORLDS;
+use common::MOST_PRINCIPALS;
+use common::MOST_WORLDS;
 use steps::Principal;
 use steps::World;
 

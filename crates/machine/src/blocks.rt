@@ -10,11 +10,11 @@ ghost use Rattle.machine.specs.Tables.{places, block, putBlock, topChunk
 use crate::CHUNKS;
 use crate::Obligation;
 use crate::changes;
+use common::MOST_OPEN;
 use facts::PRINCIPALS;
 use facts::ROWS;
 use facts::Row;
 use moves::Move;
-use steps::MOST_OPEN;
 use steps::Principal;
 use steps::World;
 

@@ -1,6 +1,6 @@
 // The walk through the steps over tables of the open obligations, written in place.
+use common::MOST_CHUNKS;
 use moves::Phase;
-use steps::MOST_CHUNKS;
 
 mod begin;
 mod blocks;

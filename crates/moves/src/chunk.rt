@@ -4,9 +4,9 @@ ghost use Rattle.moves.specs.Steps.{pushedKind, pushStep, splitStep, cas
 use crate::Judged;
 use crate::Move;
 use crate::Row;
-use steps::MOST_CHUNKS;
-use steps::MOST_CLAUSES;
-use steps::MOST_OPEN;
+use common::MOST_CHUNKS;
+use common::MOST_CLAUSES;
+use common::MOST_OPEN;
 use steps::Principal;
 
 // An atom, `imp` or `says`.

@@ -4,8 +4,8 @@ ghost use Rattle.moves.specs.Steps.{leftStep, rightStep, toImp, toSays, 
 use crate::Judged;
 use crate::Move;
 use crate::Row;
+use common::MOST_OPEN;
 use facts::ROWS;
-use steps::MOST_OPEN;
 use steps::Principal;
 use steps::World;
 

@@ -5,9 +5,9 @@ use crate::Found;
 use crate::Judged;
 use crate::Move;
 use crate::Row;
+use common::MOST_OPEN;
+use common::MOST_WORLDS;
 use facts::ROWS;
-use steps::MOST_OPEN;
-use steps::MOST_WORLDS;
 use steps::Principal;
 use steps::World;
 

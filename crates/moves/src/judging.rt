@@ -9,9 +9,9 @@ use crate::Row;
 use crate::chunk;
 use crate::focus;
 use crate::goal;
+use common::MOST_CLAUSES;
 use facts::ROWS;
 use steps::Clause;
-use steps::MOST_CLAUSES;
 use steps::Step;
 use steps::World;
 

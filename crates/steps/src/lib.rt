@@ -1,5 +1,4 @@
-// Steps, and the numbers of worlds, principals and clauses, with what a sequent and its obligations may have of them: reader, facts and judge
-// share them.
+// Steps, and the numbers of worlds, principals and clauses: reader, facts and judge share them.
 ghost use mathlib.Core.Path.{_≡_};
 ghost use Rattle.steps.specs.Steps.{pair, stepFrom, pairOf};
 
@@ -9,17 +8,6 @@ pub struct World(pub u16);
 pub struct Principal(pub u16);
 
 pub struct Clause(pub u16);
-
-// What is allowed, as scope/specs/Limits has it: principals; worlds and clauses of a sequent; open obligations; chunks of an obligation.
-pub const MOST_PRINCIPALS: u16 = 16;
-
-pub const MOST_WORLDS: u16 = 64;
-
-pub const MOST_CLAUSES: u16 = 256;
-
-pub const MOST_OPEN: u16 = 256;
-
-pub const MOST_CHUNKS: u16 = 16;
 
 // A step is one of eighteen kinds, two of which carry a number.
 pub enum Step {
