@@ -31,6 +31,11 @@ pub const MOST_CHUNKS: u16 = 16;
 
 pub const MOST_STEP_NUMBER: u32 = 65535;
 
+// The kinds of formulas and of steps that scope/specs/File/Kinds lists.
+pub const FORM_KINDS: usize = 8;
+
+pub const STEP_KINDS: usize = 18;
+
 // The room of each lent table: 3 numbers a formula, 1 a policy line, 2 a step.
 pub const FORM_ROOM: usize = 3 * (MOST_FORMULAS as usize);
 

@@ -8,6 +8,8 @@ ghost use Rattle.lines.specs.Parts.{upTo, valueOf, restOf};
 ghost use Rattle.scope.specs.File.Stops.{mostDigits, numberStop};
 ghost use Rattle.lines.specs.Words.{codeOf, laterItems, wantedRow, logicPlace};
 ghost use Rattle.lines.specs.Answers.{numberAnswer, rowAnswer};
+use common::FORM_KINDS;
+use common::STEP_KINDS;
 
 // A number, or the place of the first byte that cannot go on.
 pub enum Number {
@@ -226,7 +228,7 @@ pub fn form_row(value: &[u8]) -> Row
 {
     let end = find_byte(value, 32);
     let code = code_of(&value[..end]);
-    let codes = [
+    let codes: [u64; FORM_KINDS] = [
         0x170, // p
         0x1746f70, // top
         0x1626f74, // bot
@@ -237,7 +239,7 @@ pub fn form_row(value: &[u8]) -> Row
         0x17366, // sf
     ];
     let kind = find_code(&codes, code);
-    if 8 <= kind {
+    if FORM_KINDS <= kind {
         return Row::Bad;
     }
     let wanted = b"\x01\x00\x00\x02\x02\x02\x02\x02"[kind];
@@ -250,7 +252,7 @@ pub fn step_row(value: &[u8]) -> Row
 {
     let end = find_byte(value, 32);
     let code = code_of(&value[..end]);
-    let codes = [
+    let codes: [u64; STEP_KINDS] = [
         0x1616e64, // and
         0x16f7231, // or1
         0x16f7232, // or2
@@ -271,7 +273,7 @@ pub fn step_row(value: &[u8]) -> Row
         0x16e6f7465, // note
     ];
     let kind = find_code(&codes, code);
-    if 18 <= kind {
+    if STEP_KINDS <= kind {
         return Row::Bad;
     }
     let wanted = b"\x00\x00\x00\x00\x00\x00\x00\x01\x00\x00\x01\x00\x00\x00\x00\x00\x00\x00"[kind];

@@ -54,7 +54,7 @@ pub fn form_refusal(
 pub fn step_refusal(kind: usize, left: u32, right: u32) -> u16
     ensures { λ r. ⌜ r ≡ stepRefusal (row kind left right) ⌝ }
 {
-    if 18 <= kind {
+    if common::STEP_KINDS <= kind {
         return 3;
     }
     match kind {
