@@ -2,7 +2,6 @@
 ghost use mathlib.Core.Path.{_≡_};
 ghost use Prim.Native.Nat.{_*_, min};
 ghost use lib.ListN.{getD, take};
-ghost use Rattle.scope.specs.Logic.Form.{both};
 ghost use Rattle.scope.specs.Limits.{mostFormulas};
 ghost use Rattle.classes.specs.Class.{bit, goalIn, policyIn, clauseIn, chunkIn, classByte, andClass, orClass, impClass, saysClass, rowClass, classTable};
 
@@ -34,12 +33,6 @@ fn is_chunk(class: u8) -> bool
     class / 8 % 2 == 1
 }
 
-fn both_of(a: bool, b: bool) -> bool
-    ensures { λ r. ⌜ r ≡ both a b ⌝ }
-{
-    if a { b } else { false }
-}
-
 fn bit_of(test: bool, value: u8) -> u8
     ensures { λ r. ⌜ r ≡ value * bit test ⌝ }
 {
@@ -55,25 +48,25 @@ fn byte_of(goal: bool, policy: bool, clause: bool, chunk: bool) -> u8
 fn and_class(left: u8, right: u8) -> u8
     ensures { λ r. ⌜ r ≡ andClass left right ⌝ }
 {
-    let goal = both_of(is_goal(left), is_goal(right));
-    let clause = both_of(is_clause(left), is_clause(right));
-    let chunk = both_of(is_chunk(left), is_chunk(right));
+    let goal = common::both_of(is_goal(left), is_goal(right));
+    let clause = common::both_of(is_clause(left), is_clause(right));
+    let chunk = common::both_of(is_chunk(left), is_chunk(right));
     byte_of(goal, clause, clause, chunk)
 }
 
 fn or_class(left: u8, right: u8) -> u8
     ensures { λ r. ⌜ r ≡ orClass left right ⌝ }
 {
-    let goal = both_of(is_goal(left), is_goal(right));
-    let chunk = both_of(is_chunk(left), is_chunk(right));
+    let goal = common::both_of(is_goal(left), is_goal(right));
+    let chunk = common::both_of(is_chunk(left), is_chunk(right));
     byte_of(goal, false, false, chunk)
 }
 
 fn imp_class(left: u8, right: u8) -> u8
     ensures { λ r. ⌜ r ≡ impClass left right ⌝ }
 {
-    let goal = both_of(is_chunk(left), is_goal(right));
-    let clause = both_of(is_goal(left), is_clause(right));
+    let goal = common::both_of(is_chunk(left), is_goal(right));
+    let clause = common::both_of(is_goal(left), is_clause(right));
     byte_of(goal, clause, clause, clause)
 }
 

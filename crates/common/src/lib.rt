@@ -3,6 +3,7 @@
 ghost use mathlib.Core.Path.{_≡_};
 ghost use Prim.Native.Nat.{suc};
 ghost use lib.ListN.{getD, set};
+ghost use Rattle.scope.specs.Logic.Form.{both};
 ghost use Rattle.scope.specs.Call.Tables.{hasRoom};
 ghost use Rattle.scope.specs.Limits.{versionAt, logicAt, extraLines, principalsAt, atomsAt, formulasAt, formAt, clausesAt, clauseAt, goalAt, stepsAt, stepAt, endAt};
 
@@ -164,6 +165,13 @@ pub fn has_room(forms: usize, policy: usize, steps: usize) -> bool
         return false;
     }
     true
+}
+
+// `&&` as a call, so that a proof has an equation for it.
+pub fn both_of(a: bool, b: bool) -> bool
+    ensures { λ r. ⌜ r ≡ both a b ⌝ }
+{
+    if a { b } else { false }
 }
 
 // What stands at a place of a table, 0 past its end.

@@ -1,15 +1,8 @@
 // The refusals of a row, whether it stands in a line of the file or in a lent table: 3 before 4, and 0 where there is none.
 ghost use mathlib.Core.Path.{_≡_};
-ghost use Rattle.scope.specs.Logic.Form.{both};
 ghost use Rattle.scope.specs.File.Kinds.{formKinds};
 ghost use Rattle.scope.specs.File.Refusals.{demand, rowRefusal, stepRefusal};
 ghost use Rattle.refusals.specs.Rows.{row};
-
-fn both_of(a: bool, b: bool) -> bool
-    ensures { λ r. ⌜ r ≡ both a b ⌝ }
-{
-    if a { b } else { false }
-}
 
 // 3 before 4: an unused operand that is not 0, a number outside its range, a formula that is no earlier one.
 fn refusal_of(unused: bool, ranges: bool, earlier: bool) -> u16
@@ -39,13 +32,13 @@ pub fn form_refusal(
     let p = principals as u32;
     match kind {
         0 => refusal_of(right == 0, left < atoms as u32, true),
-        1 => refusal_of(both_of(left == 0, right == 0), true, true),
-        2 => refusal_of(both_of(left == 0, right == 0), true, true),
-        3 => refusal_of(true, true, both_of(left < i, right < i)),
-        4 => refusal_of(true, true, both_of(left < i, right < i)),
-        5 => refusal_of(true, true, both_of(left < i, right < i)),
+        1 => refusal_of(common::both_of(left == 0, right == 0), true, true),
+        2 => refusal_of(common::both_of(left == 0, right == 0), true, true),
+        3 => refusal_of(true, true, common::both_of(left < i, right < i)),
+        4 => refusal_of(true, true, common::both_of(left < i, right < i)),
+        5 => refusal_of(true, true, common::both_of(left < i, right < i)),
         6 => refusal_of(true, left < p, right < i),
-        7 => refusal_of(true, both_of(left < p, right < p), true),
+        7 => refusal_of(true, common::both_of(left < p, right < p), true),
         _ => 3,
     }
 }
@@ -60,6 +53,6 @@ pub fn step_refusal(kind: usize, left: u32, right: u32) -> u16
     match kind {
         7 => refusal_of(right == 0, left <= common::MOST_STEP_NUMBER, true),
         10 => refusal_of(right == 0, left <= common::MOST_STEP_NUMBER, true),
-        _ => refusal_of(both_of(left == 0, right == 0), true, true),
+        _ => refusal_of(common::both_of(left == 0, right == 0), true, true),
     }
 }

@@ -1,8 +1,8 @@
--- `refusals::both_of` meets its contract, case by case.
+-- `common::both_of` meets its contract, case by case.
 use mathlib.Core.Path.{ap, sym}
 use Rattle.scope.specs.Logic.Form.{both}
-use Rattle.refusals.proofs.both_of.Statement.{statement}
-use Rattle.refusals.proofs.both_of.Tie as tie
+use Rattle.common.proofs.both_of.Statement.{statement}
+use Rattle.common.proofs.both_of.Tie as tie
 
 returns : tie.Need-returns
 unfolding both
