@@ -23,11 +23,11 @@ abbrev pub headSlots : ℕ
 headSlots = 1024
 
 abbrev pub mostSlots : ℕ
-mostSlots = 3072
+mostSlots = headSlots + 2 * mostFormulas
 
 -- No path has more rows than there are.
 abbrev pub mostTurns : ℕ
-mostTurns = 1025
+mostTurns = mostFormulas + 1
 
 -- The head of a row, and its key.
 unfoldable pub headOf : Row → ℕ

@@ -11,9 +11,15 @@ ghost use Rattle.numbering.specs.Slots.{headOf, keyOf, placeIn, keptAt, 
 ghost use Rattle.numbering.specs.Repeats.{firstRepeat};
 ghost use Rattle.numbering.specs.Refused.{repeatRefusal};
 ghost use Rattle.scope.specs.File.Refusals.{firstOf};
+use common::MOST_FORMULAS;
 
-// The slots: 1,024 heads, and two under each of 1,024 rows.
-pub const SLOTS: usize = 3072;
+// The slots: the heads, and two under each row.
+const HEADS: usize = 1024;
+
+pub const SLOTS: usize = HEADS + 2 * (MOST_FORMULAS as usize);
+
+// No way from a head on has more rows than there are.
+const TURNS: usize = MOST_FORMULAS as usize + 1;
 
 // The number of the row that is equal; or the slot in which it would stand.
 pub enum Place {
@@ -48,7 +54,7 @@ fn head_of(kind: u16, left: u16, right: u16) -> usize
     let k = kind as usize;
     let l = left as usize;
     let r = right as usize;
-    (l * 40503 + r * 30029 + k * 9973) / 64 % 1024
+    (l * 40503 + r * 30029 + k * 9973) / 64 % HEADS
 }
 
 fn key_of(kind: u16, left: u16, right: u16) -> usize
@@ -66,7 +72,7 @@ pub fn find_row(forms: &[u16], slots: &[u16; SLOTS], kind: u16, left: u16, right
 {
     let mut key = key_of(kind, left, right);
     let mut slot = head_of(kind, left, right);
-    let mut turns: usize = 1025;
+    let mut turns: usize = TURNS;
     while 0 < turns {
         let entry = common::entry_at(slots, slot);
         if entry == 0 {
@@ -76,7 +82,7 @@ pub fn find_row(forms: &[u16], slots: &[u16; SLOTS], kind: u16, left: u16, right
         if same_row(forms, i, kind, left, right) {
             return Place::Taken(i);
         }
-        slot = 1024 + 2 * (i as usize) + key % 2;
+        slot = HEADS + 2 * (i as usize) + key % 2;
         key = key / 2;
         turns -= 1;
     }
@@ -90,7 +96,7 @@ pub fn keep_row(slots: &mut [u16; SLOTS], place: Place, i: u16)
     let Place::Free(slot) = place else {
         return;
     };
-    if i < 1024 {
+    if i < MOST_FORMULAS {
         common::put_entry(slots, slot, i + 1);
     }
 }
@@ -159,7 +165,11 @@ fn enter_next(forms: &[u16], slots: &mut [u16; SLOTS], i: u16) -> Earlier
 fn at_most(count: u16) -> u16
     ensures { λ r. ⌜ r ≡ min count mostFormulas ⌝ }
 {
-    if count < 1024 { count } else { 1024 }
+    if count < MOST_FORMULAS {
+        count
+    } else {
+        MOST_FORMULAS
+    }
 }
 
 // The first of a table's rows that repeats an earlier one.
