@@ -8,7 +8,6 @@
  *   - a pointer points to as many elements as the length after it says, aligned for them, and is never null, not even where
  *     the length is 0;
  *   - what a call writes to overlaps nothing else that the call is given;
- *   - the logic that goes with tables is PERADUKSI_LOGIC_PLAIN or PERADUKSI_LOGIC_UNIT;
  *   - the thread has stack left for the call, PERADUKSI_STACK bytes: a call does not ask whether it has, and one that runs past
  *     the end of its stack ends the program with a fault. The main thread has it; for a thread of yours see its stack size.
  *
@@ -119,8 +118,8 @@ enum peraduksi_stack {
     PERADUKSI_STACK = 98304
 };
 
-/* The version, the logic, the counts and the goal that go with lent tables. A version that is neither of the two is 3 at line 1; the
-   logic is one of the two. */
+/* The version, the logic, the counts and the goal that go with lent tables. A version that is neither of the two is 3 at line 1; a
+   logic that is neither of the two is taken as unit, and none such comes back. */
 struct peraduksi_counts {
     uint16_t version;
     uint16_t logic;
