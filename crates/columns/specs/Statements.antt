@@ -6,6 +6,7 @@ use mathlib.Core.List.{List, [], _∷_, _++_}
 use mathlib.Core.Bool.{Bool, true, false, cond}
 use lib.ListN.{length}
 use native.Mathlib.Omega.{arith}
+use Rattle.scope.specs.Call.Result.{refused}
 use Rattle.scope.specs.Call.Answer.{told, furtherDown}
 use Rattle.scope.specs.Logic.Facts.{Logic, plain}
 use Rattle.scope.specs.File.Bytes.{bytes}
@@ -15,7 +16,7 @@ use Rattle.scope.specs.File.Line.{Read, ok, bad, parts, cut, lineStop, line, do
 use Rattle.scope.specs.File.Kinds.{formKinds, stepKinds}
 use Rattle.scope.specs.File.Refusals.{versionRefusal, principalsRefusal, atomsRefusal, formulasRefusal, formRefusal, clausesRefusal, clauseRefusal, goalRefusal, stepsRefusal, stepRefusal}
 use Rattle.scope.specs.File.Text.{versionLine, logicLine, principalsLine, atomsLine, formulasLine, formLine, clausesLine, clauseLine, goalLine, stepsLine, stepLine}
-use Rattle.scope.specs.File.Reader.{refused, formItem, clauseItem, stepItem, bodyLines, readLogic, requestLines, ended, readRequest}
+use Rattle.scope.specs.File.Reader.{formItem, clauseItem, stepItem, bodyLines, readLogic, requestLines, ended, readRequest}
 use Rattle.scope.specs.File.Column.{Column}
 use Rattle.scope.specs.Limits.{mostVersion, mostPrincipals, mostAtoms, mostFormulas, mostPolicyLines, mostSteps}
 use Rattle.scope.specs.Limits.{versionAt, hasLogic, logicAt, extraLines, principalsAt, atomsAt, formulasAt, formAt, clausesAt, clauseAt, goalAt, stepsAt, stepAt, endAt}

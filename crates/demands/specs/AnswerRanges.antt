@@ -9,9 +9,9 @@ use mathlib.Core.List.{List}
 use mathlib.Core.Logic.{inl}
 use native.Mathlib.Omega.{arith}
 use lib.ListN.{length, length-map}
+use Rattle.scope.specs.Call.Result.{refused}
 use Rattle.scope.specs.Limits.{mostFormulas, mostPolicyLines, mostSteps}
 use Rattle.scope.specs.File.Request.{Request}
-use Rattle.scope.specs.File.Reader.{refused}
 use Rattle.scope.specs.Logic.Obligation.{stepOf}
 use Rattle.scope.specs.Logic.Room.{within}
 use Rattle.scope.specs.Call.Answer.{Answer, told, answer}

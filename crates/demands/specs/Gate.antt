@@ -3,10 +3,11 @@ use Prim.Native.Nat.{ℕ, zero, _*_}
 use mathlib.Core.Path.{_≡_, refl, sym, ap, _∙_}
 use mathlib.Core.List.{List}
 use lib.ListN.{length}
+use Rattle.scope.specs.Call.Result.{result, refused}
 use Rattle.scope.specs.Call.Answer.{Answer, told, answer}
 use Rattle.scope.specs.Limits.{mostFormulas, mostPolicyLines, mostSteps}
 use Rattle.scope.specs.File.Request.{Request}
-use Rattle.scope.specs.File.Reader.{Outcome, read, refused}
+use Rattle.scope.specs.File.Reader.{Outcome}
 use Rattle.scope.specs.Call.Tables.{requestOf, lentOf}
 use Rattle.scope.specs.Call.Calls.{reading}
 use Rattle.scope.specs.Logic.Derivation.{Derivation}
@@ -27,7 +28,7 @@ gateReads s = reading (3 * mostFormulas) mostPolicyLines (2 * mostSteps) s
 -- What the gate may print for a file: the reader's refusal with no steps; or the steps read, with the answer that the rules settle.
 pub data Prints (s : List ℕ) : Printed → Type 0 where
   unread : {k place column : ℕ} → gateReads s ≡ refused (told k place column) → Prints s (prints k place 0 column)
-  answered : {q : Request} {k place : ℕ} → gateReads s ≡ read q → Settled within (startOf q) (stepsOf q) (answer k place) →
+  answered : {q : Request} {k place : ℕ} → gateReads s ≡ result q → Settled within (startOf q) (stepsOf q) (answer k place) →
       Prints s (prints k place (length (q .steps)) 0)
 
 gate-law : (s : List ℕ) → gate s ≡ printedAfter (gateReads s)
@@ -38,7 +39,7 @@ printed-law : (k place n : ℕ) → printed (answer k place) n ≡ prints k plac
 unfolding printed
 printed-law k place n = refl
 
-judged-read : (q : Request) → printedAfter (read q) ≡ printed (stepsAnswer q) (length (q .steps))
+judged-read : (q : Request) → printedAfter (result q) ≡ printed (stepsAnswer q) (length (q .steps))
 unfolding printedAfter
 judged-read q = refl
 
@@ -50,12 +51,12 @@ judged-refused k place column = refl
 pub gate-prints : (s : List ℕ) → Prints s (gate s)
 gate-prints s = go (gateReads s) refl
   where
-    of : (q : Request) (a : Answer) → gateReads s ≡ read q → Settled within (startOf q) (stepsOf q) a → Prints s (printed a (length (q .steps)))
+    of : (q : Request) (a : Answer) → gateReads s ≡ result q → Settled within (startOf q) (stepsOf q) a → Prints s (printed a (length (q .steps)))
     of q a e (grants d) = rw (printed-law 0 0 (length (q .steps))) (answered e (grants d))
     of q a e (breaks {k = k} {place = place} b) = rw (printed-law k place (length (q .steps))) (answered e (breaks b))
 
     go : (o : Outcome) → gateReads s ≡ o → Prints s (gate s)
-    go (read q) e = rw (gate-law s, e, judged-read q) (of q (stepsAnswer q) e (steps-settled q (stepsAnswer q) .0 refl))
+    go (result q) e = rw (gate-law s, e, judged-read q) (of q (stepsAnswer q) e (steps-settled q (stepsAnswer q) .0 refl))
     go (refused (told k place column)) e = rw (gate-law s, e, judged-refused k place column) (unread e)
 
 -- no other is allowed.
@@ -67,7 +68,7 @@ prints-gate s p (answered {q = q} {k = k} {place = place} e f) =
 
 -- A file that is granted: it reads to a request, and its steps are a derivation within the limits.
 pub record Granting (s : List ℕ) (q : Request) : Type 0 where
-  pub reads : gateReads s ≡ read q
+  pub reads : gateReads s ≡ result q
   pub derives : Derivation within (startOf q) (stepsOf q)
 
 -- Demand 2: granted exactly then.
@@ -96,7 +97,7 @@ gate-entails s q g =
     (steps-settled q (answer 0 0) .1 (grants (g .derives)))
 
 -- The gate is the judge on the tables that reading left.
-pub gate-judges : (s : List ℕ) (q : Request) → gateReads s ≡ read q →
+pub gate-judges : (s : List ℕ) (q : Request) → gateReads s ≡ result q →
     gate s ≡ printed (judge (lentOf (3 * mostFormulas) mostPolicyLines (2 * mostSteps) q)) (length (q .steps))
 gate-judges s q e =
     let t = lentOf (3 * mostFormulas) mostPolicyLines (2 * mostSteps) q in

@@ -1,7 +1,7 @@
 -- The numbers, places and columns of refusals before the steps, as document 01's table 'What comes back' has them.
 --     reading-range : reading forms lines steps s ≡ refused (told k place column) → ByReading s k place column
 --     checked-range : checked t ≡ told (suc k) place column → ByChecks (suc k) place × (column ≡ 0)
---     writing-range : writing t len ≡ unwritten (told k place column) → ByWriting k place × (column ≡ 0)
+--     writing-range : writing t len ≡ refused (told k place column) → ByWriting k place × (column ≡ 0)
 -- So reading refuses 1 to 6, 13 or 15 (`read-number`), and no refusal has number 0 (`reading-firm`).
 use Prim.Native.Nat.{ℕ, zero, suc, _+_, _<_, _≤_}
 use mathlib.Core.Path.{_≡_, refl}
@@ -11,17 +11,18 @@ use mathlib.Core.Logic.{_⊎_, inl, inr}
 use native.Mathlib.Omega.{arith}
 use lib.Dec.{leb, eqb}
 use lib.ListN.{length}
+use Rattle.scope.specs.Call.Result.{result, refused}
 use Rattle.scope.specs.Logic.Facts.{isUnit}
 use Rattle.scope.specs.Logic.Form.{both, negate}
 use Rattle.scope.specs.File.Request.{Request}
 use Rattle.scope.specs.File.Refusals.{demand, unitRefusal, formRefusal, clauseRefusal, stepRefusal}
-use Rattle.scope.specs.File.Reader.{refused, readRequest}
+use Rattle.scope.specs.File.Reader.{readRequest}
 use Rattle.scope.specs.File.Text.{requestText}
 use Rattle.scope.specs.Limits.{mostBytes, mostVersion, extraLines, mostPrincipals, mostAtoms, mostFormulas, mostPolicyLines, mostSteps, formAt, clauseAt, stepAt}
 use Rattle.scope.specs.Call.Answer.{Answer, told, answer, furtherDown}
 use Rattle.scope.specs.Call.Tables.{Lent, hasRoom, requestOf}
 use Rattle.scope.specs.Call.Checked.{firstMet, eachOf, bodyAnswers, lineAnswers, pastZero, checked}
-use Rattle.scope.specs.Call.Calls.{reading, written, unwritten, writtenIf, writing}
+use Rattle.scope.specs.Call.Calls.{reading, writtenIf, writing}
 use Rattle.scope.specs.Tools.Tests.{never}
 use Rattle.trip.specs.LineRefusals.{InShape, range, later, twice, class, OfLine, shape, in-shape, Mild, count-mild, form-mild, clause-mild, goal-mild, step-mild}
 use Rattle.trip.specs.Places.{Where, of-line, of-rest, refused-where}
@@ -227,16 +228,16 @@ checked-range t k place column e =
     (ranged-all _ _ (ranged-lines (requestOf t)) (ranged-first _ _ _ (past-asked (pastZero t)) ranged-none))) .ranged k place column e
 
 -- Writing.
-pub writing-range : (t : Lent) (len k place column : ℕ) → writing t len ≡ unwritten (told k place column) → ByWriting k place × (column ≡ 0)
+pub writing-range : (t : Lent) (len k place column : ℕ) → writing t len ≡ refused (told k place column) → ByWriting k place × (column ≡ 0)
 unfolding writing writtenIf
 writing-range t len k place column e = go (checked t) refl e
   where
-    out : (fits : Bool) (s : List ℕ) → cond fits (written s) (unwritten (answer 14 0)) ≡ unwritten (told k place column) →
+    out : (fits : Bool) (s : List ℕ) → cond fits (result s) (refused (answer 14 0)) ≡ refused (told k place column) →
         ByWriting k place × (column ≡ 0)
     out true s d = never cc
     out false s d = (no-output (cc) (cc), cc)
 
-    go : (a : Answer) → checked t ≡ a → writtenIf a (requestText (requestOf t)) len ≡ unwritten (told k place column) →
+    go : (a : Answer) → checked t ≡ a → writtenIf a (requestText (requestOf t)) len ≡ refused (told k place column) →
         ByWriting k place × (column ≡ 0)
     go (told zero p m) c d = out (leb (length (requestText (requestOf t))) len) (requestText (requestOf t)) d
     go (told (suc n) p m) c d =

@@ -5,12 +5,12 @@ use mathlib.Core.Path.{_≡_}
 use mathlib.Core.List.{List}
 use mathlib.Core.Logic.{_↔_, _⊎_}
 use lib.ListN.{length}
+use Rattle.scope.specs.Call.Result.{refused}
 use Rattle.scope.specs.Call.Answer.{Answer, told, answer}
 use Rattle.scope.specs.Call.Tables.{Lent, requestOf}
 use Rattle.scope.specs.Call.Checked.{checked}
-use Rattle.scope.specs.Call.Calls.{reading, unwritten, writing}
+use Rattle.scope.specs.Call.Calls.{reading, writing}
 use Rattle.scope.specs.Call.Judge.{policyOf, goalOf, judge, Printed, prints, gate}
-use Rattle.scope.specs.File.Reader.{refused}
 use Rattle.scope.specs.File.Request.{Request}
 use Rattle.scope.specs.Logic.Models.{Entailed}
 use Rattle.demands.specs.Judged as Judged
@@ -64,7 +64,7 @@ read-number = Ranges.read-number
 pub checked-range : (t : Lent) (k place column : ℕ) → checked t ≡ told (suc k) place column → ByChecks (suc k) place × (column ≡ 0)
 checked-range = Ranges.checked-range
 
-pub writing-range : (t : Lent) (len k place column : ℕ) → writing t len ≡ unwritten (told k place column) → ByWriting k place × (column ≡ 0)
+pub writing-range : (t : Lent) (len k place column : ℕ) → writing t len ≡ refused (told k place column) → ByWriting k place × (column ≡ 0)
 writing-range = Ranges.writing-range
 
 pub judge-range : (t : Lent) (k place column : ℕ) → judge t ≡ told k place column → ByJudging t k place × (column ≡ 0)

@@ -7,11 +7,12 @@ use mathlib.Core.Option.{Option, none, some}
 use native.Mathlib.Omega.{arith}
 use lib.ListN.{length, getD, take}
 use lib.Seq.{length-take-le}
+use Rattle.scope.specs.Call.Result.{result}
 use Rattle.scope.specs.Call.Answer.{answer}
 use Rattle.scope.specs.Call.Tables.{Lent, requestOf}
 use Rattle.scope.specs.Call.Checked.{checked}
 use Rattle.scope.specs.File.Kinds.{formKinds}
-use Rattle.scope.specs.File.Reader.{read, readRequest}
+use Rattle.scope.specs.File.Reader.{readRequest}
 use Rattle.scope.specs.File.Refusals.{rowRefusal, isAmong}
 use Rattle.scope.specs.File.Request.{Row, Request, formula}
 use Rattle.scope.specs.Tools.Tests.{never}
@@ -48,7 +49,7 @@ module _ (q : Request) (u : Unrefused q) where
   pub unrefused-one : (i j : ℕ) → i < length (q .forms) → j < length (q .forms) → formula (q .forms) i ≡ formula (q .forms) j → i ≡ j
   unrefused-one = one-number (q .principals) (q .atoms) (q .forms) fair unrepeated
 
-pub read-one : (s : List ℕ) (q : Request) → readRequest s ≡ read q → (i j : ℕ) → i < length (q .forms) → j < length (q .forms) →
+pub read-one : (s : List ℕ) (q : Request) → readRequest s ≡ result q → (i j : ℕ) → i < length (q .forms) → j < length (q .forms) →
     formula (q .forms) i ≡ formula (q .forms) j → i ≡ j
 read-one s q e = unrefused-one q (read-unrefused s q e)
 

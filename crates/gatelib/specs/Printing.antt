@@ -3,11 +3,12 @@ use Prim.Native.Nat.{ℕ, _*_}
 use mathlib.Core.Path.{_≡_, refl, sym, ap, _∙_}
 use mathlib.Core.List.{List}
 use lib.ListN.{length}
+use Rattle.scope.specs.Call.Result.{result, refused}
 use Rattle.scope.specs.Call.Answer.{told}
 use Rattle.scope.specs.File.Request.{Request}
 use Rattle.scope.specs.Call.Answer as S
 use Rattle.scope.specs.Limits.{mostFormulas, mostPolicyLines, mostSteps}
-use Rattle.scope.specs.File.Reader.{Outcome, read, refused}
+use Rattle.scope.specs.File.Reader.{Outcome}
 use Rattle.scope.specs.Call.Tables.{formEntry, policyEntry, stepEntry, table, lentOf}
 use Rattle.scope.specs.Call.Calls.{formTableAfter, policyTableAfter, stepTableAfter, requestIn}
 use Rattle.scope.specs.Call.Judge.{judge, prints, printed, gate}
@@ -36,7 +37,7 @@ unfolding readingOf unreadOf printedOf
 unread-prints s r e = go (gateReads s) refl e
   where
     go : (o : Outcome) → gateReads s ≡ o → readingOf o ≡ Reading.Refused r → unreadOf (Reading.Refused r) ≡ printedOf (gate s)
-    go (read q) c d = never cc
+    go (result q) c d = never cc
     go (refused (told k place column)) c d = rw (prints-gate s (prints k place 0 column) (unread c)) (ap unreadOf (sym d))
 
 printed-answer : (a : S.Answer) (n : ℕ) →
@@ -46,7 +47,7 @@ printed-answer (S.told k place column) n = refl
 
 -- The tables as reading leaves them, with the counts that it answers, say the request that was read.
 pub lent-is : (forms policy steps : ℕ) (q : Request) →
-    lentWith (countsOf q) (formTableAfter forms (read q)) (policyTableAfter policy (read q)) (stepTableAfter steps (read q)) ≡ lentOf forms policy steps q
+    lentWith (countsOf q) (formTableAfter forms (result q)) (policyTableAfter policy (result q)) (stepTableAfter steps (result q)) ≡ lentOf forms policy steps q
 unfolding formTableAfter policyTableAfter stepTableAfter requestIn lentOf
 lent-is forms policy steps q =
     λ i.
@@ -76,14 +77,14 @@ read-prints s c forms policy steps a e f l p j = go (gateReads s) refl e
   where
     go : (o : Outcome) → gateReads s ≡ o → readingOf o ≡ Reading.Read c → put a (c .steps) ≡ printedOf (gate s)
     go (refused (told k place column)) d h = never cc
-    go (read q) d h =
+    go (result q) d h =
         let k : countsOf q ≡ c = cc in
         let t : lentWith c forms policy steps ≡ lentOf (3 * mostFormulas) mostPolicyLines (2 * mostSteps) q =
         ap (λ x. lentWith x forms policy steps) (sym k) ∙
         ap (λ x. lentWith (countsOf q) x policy steps) (f ∙ ap (formTableAfter (3 * mostFormulas)) d) ∙
-        ap (λ x. lentWith (countsOf q) (formTableAfter (3 * mostFormulas) (read q)) x steps) (l ∙ ap (policyTableAfter mostPolicyLines) d) ∙
+        ap (λ x. lentWith (countsOf q) (formTableAfter (3 * mostFormulas) (result q)) x steps) (l ∙ ap (policyTableAfter mostPolicyLines) d) ∙
         ap
-        (λ x. lentWith (countsOf q) (formTableAfter (3 * mostFormulas) (read q)) (policyTableAfter mostPolicyLines (read q)) x)
+        (λ x. lentWith (countsOf q) (formTableAfter (3 * mostFormulas) (result q)) (policyTableAfter mostPolicyLines (result q)) x)
         (p ∙ ap (stepTableAfter (2 * mostSteps)) d) ∙
         lent-is (3 * mostFormulas) mostPolicyLines (2 * mostSteps) q in
         let b = judge (lentOf (3 * mostFormulas) mostPolicyLines (2 * mostSteps) q) in

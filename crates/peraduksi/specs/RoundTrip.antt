@@ -8,14 +8,15 @@ use mathlib.Core.Bool.{Bool, true, false, cond}
 use lib.Dec.{leb}
 use lib.ListN.{length, take, replicate}
 use lib.Seq.{take-append-seam}
+use Rattle.scope.specs.Call.Result.{result, refused, resultAnswer}
 use Rattle.scope.specs.Call.Answer.{Answer, told, answer, refusalIn, placeIn, columnIn}
 use Rattle.scope.specs.File.Request.{Request}
 use Rattle.scope.specs.File.Kinds.{logicNumber, logicOf}
 use Rattle.scope.specs.File.Text.{requestText}
-use Rattle.scope.specs.File.Reader.{Outcome, read, refused}
+use Rattle.scope.specs.File.Reader.{Outcome}
 use Rattle.scope.specs.Call.Tables.{Lent, requestOf, lentOf, padded}
 use Rattle.scope.specs.Call.Checked.{checked}
-use Rattle.scope.specs.Call.Calls.{written, unwritten, writtenIf, writing, writtenAnswer, textIn, outputAfter, reading, outcomeAnswer, requestIn, formTableAfter, policyTableAfter, stepTableAfter, lentAfter}
+use Rattle.scope.specs.Call.Calls.{writtenIf, writing, textIn, outputAfter, reading, requestIn, formTableAfter, policyTableAfter, stepTableAfter, lentAfter}
 use Rattle.trip.specs.Statements.{trip-write, trip-read}
 use Rattle.demands.specs.Ranges.{reading-firm}
 use Rattle.common.specs.declared.Counts.{Counts}
@@ -56,19 +57,19 @@ one-reading a b = (
   one-only (a .stepsLeft) (b .stepsLeft),
 )
 
-picked : (b : Bool) (s : List ℕ) → refusalIn (writtenAnswer (cond b (written s) (unwritten (answer 14 0)))) ≡ 0 →
-    cond b (written s) (unwritten (answer 14 0)) ≡ written (textIn (cond b (written s) (unwritten (answer 14 0))))
-unfolding refusalIn writtenAnswer textIn
+picked : (b : Bool) (s : List ℕ) → refusalIn (resultAnswer (cond b (result s) (refused (answer 14 0)))) ≡ 0 →
+    cond b (result s) (refused (answer 14 0)) ≡ result (textIn (cond b (result s) (refused (answer 14 0))))
+unfolding refusalIn resultAnswer textIn
 picked true s e = refl
 picked false s e = absurd (omega arith)
 
-if-none : (a : Answer) (s : List ℕ) (len : ℕ) → refusalIn (writtenAnswer (writtenIf a s len)) ≡ 0 → writtenIf a s len ≡ written (textIn (writtenIf a s len))
-unfolding writtenIf refusalIn writtenAnswer
+if-none : (a : Answer) (s : List ℕ) (len : ℕ) → refusalIn (resultAnswer (writtenIf a s len)) ≡ 0 → writtenIf a s len ≡ result (textIn (writtenIf a s len))
+unfolding writtenIf refusalIn resultAnswer
 if-none (told zero place column) s len e = picked (leb (length s) len) s e
 if-none (told (suc k) place column) s len e = absurd (omega arith)
 
 -- Refusal 0 is answered of a written text alone.
-fine-written : (t : Lent) (len : ℕ) → refusalIn (writtenAnswer (writing t len)) ≡ 0 → writing t len ≡ written (textIn (writing t len))
+fine-written : (t : Lent) (len : ℕ) → refusalIn (resultAnswer (writing t len)) ≡ 0 → writing t len ≡ result (textIn (writing t len))
 fine-written t len e =
     rw (writing-is t len) (if-none (checked t) (requestText (requestOf t)) len (rw (writing-is t len) at e))
 
@@ -150,13 +151,13 @@ pub written-reads : {counts : Counts} {forms policy steps out : List ℕ} {w : W
     length forms₀ ≡ length forms → length policy₀ ≡ length policy → length steps₀ ≡ length steps →
     Did-read (take (w .length) o) forms₀ policy₀ steps₀ r f p s →
     (r ≡ record { refusal = 0; place = 0; column = 0; counts = said counts }) × (f ≡ forms) × (p ≡ policy) × (s ≡ steps)
-unfolding writingOf readOf refusalIn placeIn columnIn outcomeAnswer requestIn lentAfter lentOf formTableAfter policyTableAfter stepTableAfter
+unfolding writingOf readOf refusalIn placeIn columnIn resultAnswer requestIn lentAfter lentOf formTableAfter policyTableAfter stepTableAfter
 written-reads {counts} {forms} {policy} {steps} {out} {w} {o} {forms₀} {policy₀} {steps₀} {r} {f} {p} {s} a e lf lp ls d =
     let t = lentWith counts forms policy steps in
     let text = take (w .length) o in
-    let none : refusalIn (writtenAnswer (writing t (length out))) ≡ 0 = sym (ap (λ (x : Writing). x .refusal) (a .answered)) ∙ e in
+    let none : refusalIn (resultAnswer (writing t (length out))) ≡ 0 = sym (ap (λ (x : Writing). x .refusal) (a .answered)) ∙ e in
     let back = trip-write t (length out) (textIn (writing t (length out))) (fine-written t (length out) none) in
-    let same : reading (length forms₀) (length policy₀) (length steps₀) text ≡ read (requestOf t) =
+    let same : reading (length forms₀) (length policy₀) (length steps₀) text ≡ result (requestOf t) =
     (λ i. reading (lf i) (lp i) (ls i) (text-stands a i)) ∙ back .0 in
     let whole : lentOf (length forms) (length policy) (length steps) (requestOf t) ≡ t =
     sym (ap (lentAfter (length forms) (length policy) (length steps)) (back .0)) ∙ back .1 in (
@@ -171,7 +172,7 @@ written-reads {counts} {forms} {policy} {steps} {out} {w} {o} {forms₀} {policy
 pub read-writes : {text forms policy steps : List ℕ} {r : Read} {f p s out : List ℕ} {w : Writing} {o : List ℕ} →
     Did-read text forms policy steps r f p s → r .refusal ≡ 0 → length text ≤ length out → Wrote (r .counts) f p s out w o →
     (w ≡ record { refusal = 0; place = 0; length = length text }) × (o ≡ padded (length out) text)
-unfolding writingOf writtenAnswer textIn refusalIn placeIn columnIn outputAfter readOf outcomeAnswer requestIn lentAfter lentOf formTableAfter policyTableAfter stepTableAfter
+unfolding writingOf resultAnswer textIn refusalIn placeIn columnIn outputAfter readOf requestIn lentAfter lentOf formTableAfter policyTableAfter stepTableAfter
 read-writes {text} {forms} {policy} {steps} {r} {f} {p} {s} {out} {w} {o} d e h a =
     go (reading (length forms) (length policy) (length steps) text) refl
   where
@@ -181,13 +182,13 @@ read-writes {text} {forms} {policy} {steps} {r} {f} {p} {s} {out} {w} {o} d e h 
         let firm : 0 < k = reading-firm (length forms) (length policy) (length steps) text k place column g in
         let zero : k ≡ 0 = sym (ap (λ (x : Read). x .refusal) (d .answered ∙ ap readOf g)) ∙ e in
         absurd (omega arith)
-    go (read q) g =
+    go (result q) g =
         let counts : r .counts ≡ countsOf q = ap (λ (x : Read). x .counts) (d .answered ∙ ap readOf g) in
         let forms-are = d .formsLeft ∙ ap (formTableAfter (length forms)) g in
         let policy-is = d .policyLeft ∙ ap (policyTableAfter (length policy)) g in
         let steps-are = d .stepsLeft ∙ ap (stepTableAfter (length steps)) g in
-        let whole : lentWith (r .counts) f p s ≡ lentAfter (length forms) (length policy) (length steps) (read q) =
+        let whole : lentWith (r .counts) f p s ≡ lentAfter (length forms) (length policy) (length steps) (result q) =
         (λ i. lentWith (counts i) (forms-are i) (policy-is i) (steps-are i)) ∙ lent-is (length forms) (length policy) (length steps) q in
-        let x : writing (lentWith (r .counts) f p s) (length out) ≡ written text =
+        let x : writing (lentWith (r .counts) f p s) (length out) ≡ result text =
         ap (λ (t : Lent). writing t (length out)) whole ∙ trip-read (length forms) (length policy) (length steps) (length out) text q g h in
         (a .answered ∙ ap writingOf x, a .output ∙ ap (outputAfter (length out)) x)

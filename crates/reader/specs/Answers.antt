@@ -3,14 +3,15 @@ use Prim.Native.Nat.{ℕ, suc, _+_, _-_}
 use mathlib.Core.Path.{_≡_, refl}
 use mathlib.Core.List.{List}
 use lib.ListN.{length}
+use Rattle.scope.specs.Call.Result.{result, refused, resultAnswer}
 use Rattle.scope.specs.Logic.Facts.{Logic, plain, unit}
 use Rattle.scope.specs.Limits.{extraLines}
 use Rattle.scope.specs.File.Kinds.{logicNumber, logicOf}
 use Rattle.scope.specs.File.Request.{Row, Request}
 use Rattle.scope.specs.File.Line.{Line, Value, val, out, Read, ok, bad, lineStop}
-use Rattle.scope.specs.File.Reader.{Outcome, read, refused}
+use Rattle.scope.specs.File.Reader.{Outcome}
 use Rattle.scope.specs.Call.Answer.{Answer, told, answer, columnFor}
-use Rattle.scope.specs.Call.Calls.{outcomeAnswer, noRequest, requestIn}
+use Rattle.scope.specs.Call.Calls.{noRequest, requestIn}
 use Rattle.common.specs.Answers.{answerOf, answerIs, answer-back}
 use Rattle.common.specs.declared.Counts.{Counts}
 use Rattle.common.specs.declared.Answer.{Answer as Returned}
@@ -59,7 +60,7 @@ logic-back plain = refl
 logic-back unit = refl
 
 unfoldable pub readingOf : Outcome → Reading
-readingOf (read q) = Reading.Read (countsOf q)
+readingOf (result q) = Reading.Read (countsOf q)
 readingOf (refused a) = Reading.Refused (answerOf a)
 
 -- Document 01's number and values for each case: 0 at place 0 with the counts and the goal, or the refusal at its place with zeros.
@@ -71,14 +72,14 @@ unfoldable pub countsIn : Reading → Counts
 countsIn (Reading.Read c) = c
 countsIn (Reading.Refused r) = countsOf noRequest
 
-pub answers-same : (o : Outcome) → answerIn (readingOf o) ≡ outcomeAnswer o
-unfolding answerIn readingOf outcomeAnswer
-answers-same (read q) = refl
+pub answers-same : (o : Outcome) → answerIn (readingOf o) ≡ resultAnswer o
+unfolding answerIn readingOf resultAnswer
+answers-same (result q) = refl
 answers-same (refused z) = answer-back z
 
 pub counts-same : (o : Outcome) → countsIn (readingOf o) ≡ countsOf (requestIn o)
 unfolding countsIn readingOf requestIn
-counts-same (read q) = refl
+counts-same (result q) = refl
 counts-same (refused z) = refl
 
 -- Of one line.

@@ -7,13 +7,14 @@ use mathlib.Core.Bool.{Bool, true, false}
 use lib.ListN.{length, replicate}
 use lib.Dec.{leb}
 use borrow.Author.Tests.{leb-true, le-leb, lt-leb}
+use Rattle.scope.specs.Call.Result.{result, refused}
 use Rattle.scope.specs.Call.Answer.{Answer, answer}
 use Rattle.scope.specs.Tools.Tests.{never}
 use Rattle.scope.specs.Logic.Form.{both}
 use Rattle.scope.specs.File.Request.{Row, Request}
 use Rattle.scope.specs.File.Line.{Read, ok, bad, andThen, _>>=_}
 use Rattle.scope.specs.Limits.{mostBytes, mostFormulas, mostPolicyLines, mostSteps, endAt}
-use Rattle.scope.specs.File.Reader.{Outcome, read, refused, readRequest}
+use Rattle.scope.specs.File.Reader.{Outcome, readRequest}
 use Rattle.scope.specs.Call.Tables.{formEntry, policyEntry, stepEntry, table, unpack, hasRoom}
 use Rattle.scope.specs.Call.Calls.{reading, requestIn, formTableAfter, policyTableAfter, stepTableAfter}
 use Rattle.common.specs.Answers.{answerOf, answerIs, answer-back}
@@ -29,10 +30,10 @@ use Rattle.reader.specs.declared.Reading.the-variants as Reading
 use Rattle.reader.specs.declared.Part.the-variants as Part
 
 -- Refused or read, an outcome is one of the two.
-outcome-never : {X : Type 0} (o : Outcome) (z : Answer) (q : Request) → o ≡ refused z → o ≡ read q → X
+outcome-never : {X : Type 0} (o : Outcome) (z : Answer) (q : Request) → o ≡ refused z → o ≡ result q → X
 outcome-never o z q e f = never cc
 
-same-request : (o : Outcome) (p q : Request) → o ≡ read p → o ≡ read q → p ≡ q
+same-request : (o : Outcome) (p q : Request) → o ≡ result p → o ≡ result q → p ≡ q
 same-request o p q e f = cc
 
 module _ (t : List ℕ) where
@@ -46,7 +47,7 @@ module _ (t : List ℕ) where
   read-over q [] e h = absurd (omega arith)
   read-over q (b ∷ v) e h = rw (body-sections t, e) refl
 
-  read-whole : (q : Request) (v : List ℕ) → sections t ≡ ok q v → length v ≡ 0 → bodyRequest t ≡ read q
+  read-whole : (q : Request) (v : List ℕ) → sections t ≡ ok q v → length v ≡ 0 → bodyRequest t ≡ result q
   unfolding bodyRequest bodyEnded
   read-whole q [] e h = rw (body-sections t, e) refl
   read-whole q (b ∷ v) e h = absurd (omega arith)
@@ -193,15 +194,15 @@ module _ {t : List ℕ} (k : Formulas-kept t) where
           read-over t joined (sg .rest) all-lines (omega (arith, sg .place)) ∙
           sym (λ i. refused (answer 6 (endAt (all-counted i .formulas) (all-counted i .policy) (all-counted i .steps))))
 
-      counts-are : Reading.Read (s .counts) ≡ readingOf (read joined)
+      counts-are : Reading.Read (s .counts) ≡ readingOf (result joined)
       unfolding readingOf
       counts-are = ap Reading.Read all-counted
 
       -- The answer, and the three tables, of a text that ends with its steps.
       pub all-read : length (behindPolicy p) ≤ s .at → (Reading.Read (s .counts) ≡ readingOf (bodyRequest t)) ×
-          (((q : Request) → bodyRequest t ≡ read q → k .numbers ≡ table formEntry (k .len) (q .forms)) ×
-          (((q : Request) → bodyRequest t ≡ read q → p .numbers ≡ table policyEntry (p .len) (q .policy)) ×
-          ((q : Request) → bodyRequest t ≡ read q → s .numbers ≡ table stepEntry (s .len) (q .steps))))
+          (((q : Request) → bodyRequest t ≡ result q → k .numbers ≡ table formEntry (k .len) (q .forms)) ×
+          (((q : Request) → bodyRequest t ≡ result q → p .numbers ≡ table policyEntry (p .len) (q .policy)) ×
+          ((q : Request) → bodyRequest t ≡ result q → s .numbers ≡ table stepEntry (s .len) (q .steps))))
       all-read l =
           let o = read-whole t joined (sg .rest) all-lines (omega (arith, sg .place, over-short)) in (
             counts-are ∙ ap readingOf (sym o),
@@ -224,7 +225,7 @@ refused-answer o x e = rw e refl
 -- A refused text answers so, and says nothing of the tables.
 pub refused-all : {A B C : Request → Type 0} (o : Outcome) (x y : Returned) → y ≡ x → o ≡ refused (answerIs x)
     → (Reading.Refused y ≡ readingOf o) ×
-    (((q : Request) → o ≡ read q → A q) × (((q : Request) → o ≡ read q → B q) × ((q : Request) → o ≡ read q → C q)))
+    (((q : Request) → o ≡ result q → A q) × (((q : Request) → o ≡ result q → B q) × ((q : Request) → o ≡ result q → C q)))
 refused-all o x y r e = (
   ap Reading.Refused r ∙ refused-answer o x e,
   (
@@ -235,18 +236,18 @@ refused-all o x y r e = (
 
 pub refused-outcome : (o : Outcome) (x : Returned) → readingOf o ≡ Reading.Refused x → o ≡ refused (answerIs x)
 unfolding readingOf
-refused-outcome (read q) x e = never cc
+refused-outcome (result q) x e = never cc
 refused-outcome (refused z) x e =
     let f : answerOf z ≡ x = cc in
     ap refused (sym (answer-back z) ∙ ap answerIs f)
 
 pub record Read-outcome (o : Outcome) : Type 0 where
   pub request : Request
-  pub is : o ≡ read request
+  pub is : o ≡ result request
 
 pub read-outcome : (o : Outcome) (c : Counts) → readingOf o ≡ Reading.Read c → Read-outcome o
 unfolding readingOf
-read-outcome (read q) c e = record { request = q; is = refl }
+read-outcome (result q) c e = record { request = q; is = refl }
 read-outcome (refused z) c e = never cc
 
 -- 'Order: 13, 1, then lines in order.'
@@ -277,15 +278,15 @@ module _ (len : ℕ) (o : Outcome) where
   unfolding stepTableAfter requestIn
   steps-zero z e = rw e (sym (table-none stepEntry len))
 
-  pub forms-stored : (q : Request) → o ≡ read q → table formEntry len (q .forms) ≡ formTableAfter len o
+  pub forms-stored : (q : Request) → o ≡ result q → table formEntry len (q .forms) ≡ formTableAfter len o
   unfolding formTableAfter requestIn
   forms-stored q e = rw e refl
 
-  pub lines-stored : (q : Request) → o ≡ read q → table policyEntry len (q .policy) ≡ policyTableAfter len o
+  pub lines-stored : (q : Request) → o ≡ result q → table policyEntry len (q .policy) ≡ policyTableAfter len o
   unfolding policyTableAfter requestIn
   lines-stored q e = rw e refl
 
-  pub steps-stored : (q : Request) → o ≡ read q → table stepEntry len (q .steps) ≡ stepTableAfter len o
+  pub steps-stored : (q : Request) → o ≡ result q → table stepEntry len (q .steps) ≡ stepTableAfter len o
   unfolding stepTableAfter requestIn
   steps-stored q e = rw e refl
 

@@ -5,6 +5,7 @@ use mathlib.Core.Path.{_≡_, refl, ap, sym, _∙_}
 use mathlib.Core.List.{List, [], _∷_, _++_}
 use lib.ListN.{length, length-append}
 use borrow.Author.Tests.{ne-eqb}
+use Rattle.scope.specs.Call.Result.{result, refused}
 use Rattle.scope.specs.Logic.Facts.{Logic, plain}
 use Rattle.scope.specs.Call.Answer.{Answer, told, furtherDown}
 use Rattle.scope.specs.File.Request.{Request}
@@ -12,7 +13,7 @@ use Rattle.scope.specs.File.Kinds.{logicNumber}
 use Rattle.scope.specs.File.Line.{Read, ok, bad, line, andThen, _>>=_}
 use Rattle.scope.specs.File.Refusals.{versionRefusal}
 use Rattle.scope.specs.File.Text.{versionLine, logicLine}
-use Rattle.scope.specs.File.Reader.{Outcome, read, refused, bodyLines, readLogic, readRequest}
+use Rattle.scope.specs.File.Reader.{Outcome, bodyLines, readLogic, readRequest}
 use Rattle.scope.specs.Limits.{mostBytes, versionAt, logicAt}
 use Rattle.scope.specs.Tools.Tests.{never}
 use Rattle.common.specs.Answers.{answerOf, answerIs, answer-back}
@@ -84,7 +85,7 @@ start-lost t x e = go (startPart t) refl e
 
 reading-headed : (v : ℕ) (l : Logic) (o : Outcome) → toldWith v (logicNumber l) (readingOf o) ≡ readingOf (headedOutcome v l o)
 unfolding toldWith readingOf headedOutcome furtherDown
-reading-headed v l (read q) = refl
+reading-headed v l (result q) = refl
 reading-headed v l (refused (told k p c)) = refl
 
 module _ {t : List ℕ} {v k at : ℕ} (g : Started t v k at) where
@@ -110,12 +111,12 @@ module _ {t : List ℕ} {v k at : ℕ} (g : Started t v k at) where
 
   -- What is true of the request of the lines behind, whatever its version and logic, is true of the file's.
   pub told-of : {X : Request → Type 0} → ((q : Request) (v : ℕ) (l : Logic) → X q → X (headed v l q)) →
-      ((q : Request) → bodyRequest (partFrom at t) ≡ read q → X q) → (q : Request) → readRequest t ≡ read q → X q
+      ((q : Request) → bodyRequest (partFrom at t) ≡ result q → X q) → (q : Request) → readRequest t ≡ result q → X q
   unfolding headedOutcome
   told-of {X} keeps h q e = go (bodyRequest (partFrom at t)) refl (sym outcome ∙ e)
     where
-      go : (o : Outcome) → bodyRequest (partFrom at t) ≡ o → headedOutcome (g .told .version) (g .told .logic) o ≡ read q → X q
-      go (read p) d f =
+      go : (o : Outcome) → bodyRequest (partFrom at t) ≡ o → headedOutcome (g .told .version) (g .told .logic) o ≡ result q → X q
+      go (result p) d f =
           let z : headed (g .told .version) (g .told .logic) p ≡ q = cc in
           rw z at (keeps p (g .told .version) (g .told .logic) (h p d))
       go (refused a) d f = never cc

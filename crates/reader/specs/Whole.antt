@@ -5,6 +5,7 @@ use mathlib.Core.Path.{_≡_, refl, sym, ap, _∙_}
 use mathlib.Core.List.{List, [], _∷_}
 use mathlib.Core.Bool.{Bool, true, false, cond}
 use lib.ListN.{length}
+use Rattle.scope.specs.Call.Result.{result, refused}
 use Rattle.scope.specs.Logic.Facts.{Logic, plain}
 use Rattle.scope.specs.Call.Answer.{Answer, answer, furtherDown}
 use Rattle.scope.specs.File.Request.{Row, Request}
@@ -12,7 +13,7 @@ use Rattle.scope.specs.File.Line.{Read, ok, bad, Reader, line, many, counted, d
 use Rattle.scope.specs.File.Refusals.{versionRefusal, principalsRefusal, atomsRefusal, formulasRefusal, clausesRefusal, goalRefusal}
 use Rattle.scope.specs.Limits.{versionAt, hasLogic, logicAt, extraLines, principalsAt, atomsAt, formulasAt, clausesAt, goalAt, endAt}
 use Rattle.scope.specs.File.Text.{versionLine, logicLine, principalsLine, atomsLine, formulasLine, clausesLine, goalLine}
-use Rattle.scope.specs.File.Reader.{formItem, clauseItem, stepItem, bodyLines, readLogic, requestLines, Outcome, read, refused, ended, readRequest}
+use Rattle.scope.specs.File.Reader.{formItem, clauseItem, stepItem, bodyLines, readLogic, requestLines, Outcome, ended, readRequest}
 use Rattle.reader.specs.Sections.{Told, Formulas, PolicyRead, startPart, headPart, formulasPart, policyPart, stepsPart}
 use Rattle.reader.specs.Many.{Ends, done-ends, line-ends, seq-ends, many-ends}
 
@@ -73,7 +74,7 @@ body-sections s =
 
 -- What the lines from `principals=` on come to, and with version and logic told.
 unfoldable pub bodyEnded : Read Request → Outcome
-bodyEnded (ok q []) = read q
+bodyEnded (ok q []) = result q
 bodyEnded (ok q (b ∷ rest)) = refused (answer 6 (endAt (length (q .forms)) (length (q .policy)) (length (q .steps))))
 bodyEnded (bad a) = refused a
 
@@ -96,7 +97,7 @@ headed version logic q =
 
 unfoldable pub headedOutcome : ℕ → Logic → Outcome → Outcome
 unfolding furtherDown
-headedOutcome version logic (read q) = read (headed version logic q)
+headedOutcome version logic (result q) = result (headed version logic q)
 headedOutcome version logic (refused a) = refused (furtherDown (extraLines version) a)
 
 flat : (version : ℕ) (logic : Logic) (s : List ℕ) →

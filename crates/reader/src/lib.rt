@@ -2,9 +2,10 @@
 ghost use mathlib.Core.Path.{_≡_};
 ghost use Prim.Native.Nat.{_*_, _≤_};
 ghost use lib.ListN.{length, replicate};
+ghost use Rattle.scope.specs.Call.Result.{result};
 ghost use Rattle.scope.specs.Limits.{mostBytes, mostFormulas, mostPolicyLines, mostSteps};
 ghost use Rattle.scope.specs.File.Request.{Request};
-ghost use Rattle.scope.specs.File.Reader.{read, readRequest};
+ghost use Rattle.scope.specs.File.Reader.{readRequest};
 ghost use Rattle.scope.specs.Call.Tables.{table, formEntry, policyEntry, stepEntry};
 ghost use Rattle.scope.specs.Call.Calls.{reading, formTableAfter, policyTableAfter, stepTableAfter};
 ghost use Rattle.scope.specs.File.Text.{logicLine, formLine, stepLine};
@@ -188,9 +189,9 @@ fn zero_table(numbers: &mut [u16])
 fn read_body(text: &[u8], forms: &mut [u16], policy: &mut [u16], steps: &mut [u16]) -> Reading
     requires { ⌜ (3 * mostFormulas ≤ length (now forms)) × (now forms ≡ replicate (length (now forms)) 0) × (mostPolicyLines ≤ length (now policy)) × (now policy ≡ replicate (length (now policy)) 0) × (2 * mostSteps ≤ length (now steps)) × (now steps ≡ replicate (length (now steps)) 0) ⌝ }
     ensures { λ r. ⌜ r ≡ readingOf (bodyRequest (now (text .entry))) ⌝ }
-    ensures { λ r. ⌜ ((q : Request) → bodyRequest (now (text .entry)) ≡ read q → now (forms .exit) ≡ table formEntry (length (now (forms .entry))) (q .forms)) ⌝ }
-    ensures { λ r. ⌜ ((q : Request) → bodyRequest (now (text .entry)) ≡ read q → now (policy .exit) ≡ table policyEntry (length (now (policy .entry))) (q .policy)) ⌝ }
-    ensures { λ r. ⌜ ((q : Request) → bodyRequest (now (text .entry)) ≡ read q → now (steps .exit) ≡ table stepEntry (length (now (steps .entry))) (q .steps)) ⌝ }
+    ensures { λ r. ⌜ ((q : Request) → bodyRequest (now (text .entry)) ≡ result q → now (forms .exit) ≡ table formEntry (length (now (forms .entry))) (q .forms)) ⌝ }
+    ensures { λ r. ⌜ ((q : Request) → bodyRequest (now (text .entry)) ≡ result q → now (policy .exit) ≡ table policyEntry (length (now (policy .entry))) (q .policy)) ⌝ }
+    ensures { λ r. ⌜ ((q : Request) → bodyRequest (now (text .entry)) ≡ result q → now (steps .exit) ≡ table stepEntry (length (now (steps .entry))) (q .steps)) ⌝ }
 {
     let first = form_lines::read_formulas(text, forms);
     let Part::Read(formulas, at) = first else {
@@ -248,9 +249,9 @@ fn told_with(body: Reading, version: u16, logic: u16) -> Reading
 fn read_parts(text: &[u8], forms: &mut [u16], policy: &mut [u16], steps: &mut [u16]) -> Reading
     requires { ⌜ (length (now text) ≤ mostBytes) × (3 * mostFormulas ≤ length (now forms)) × (now forms ≡ replicate (length (now forms)) 0) × (mostPolicyLines ≤ length (now policy)) × (now policy ≡ replicate (length (now policy)) 0) × (2 * mostSteps ≤ length (now steps)) × (now steps ≡ replicate (length (now steps)) 0) ⌝ }
     ensures { λ r. ⌜ r ≡ readingOf (readRequest (now (text .entry))) ⌝ }
-    ensures { λ r. ⌜ ((q : Request) → readRequest (now (text .entry)) ≡ read q → now (forms .exit) ≡ table formEntry (length (now (forms .entry))) (q .forms)) ⌝ }
-    ensures { λ r. ⌜ ((q : Request) → readRequest (now (text .entry)) ≡ read q → now (policy .exit) ≡ table policyEntry (length (now (policy .entry))) (q .policy)) ⌝ }
-    ensures { λ r. ⌜ ((q : Request) → readRequest (now (text .entry)) ≡ read q → now (steps .exit) ≡ table stepEntry (length (now (steps .entry))) (q .steps)) ⌝ }
+    ensures { λ r. ⌜ ((q : Request) → readRequest (now (text .entry)) ≡ result q → now (forms .exit) ≡ table formEntry (length (now (forms .entry))) (q .forms)) ⌝ }
+    ensures { λ r. ⌜ ((q : Request) → readRequest (now (text .entry)) ≡ result q → now (policy .exit) ≡ table policyEntry (length (now (policy .entry))) (q .policy)) ⌝ }
+    ensures { λ r. ⌜ ((q : Request) → readRequest (now (text .entry)) ≡ result q → now (steps .exit) ≡ table stepEntry (length (now (steps .entry))) (q .steps)) ⌝ }
 {
     let start = version_lines::read_start(text);
     let Start::Read(version, logic, at) = start else {

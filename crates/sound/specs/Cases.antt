@@ -8,11 +8,12 @@ use mathlib.Core.List.{List, [], _∷_}
 use native.Mathlib.Omega.{arith}
 use lib.Dec.{eqb}
 use lib.ListN.{getD}
+use Rattle.scope.specs.Call.Result.{result}
 use Rattle.scope.specs.Logic.Form.{Form, atom, imp, says, sf, both, either, negate}
 use Rattle.scope.specs.Logic.Facts.{Logic, plain, unit}
 use Rattle.scope.specs.File.Bytes.{bytes}
 use Rattle.scope.specs.File.Request.{Request}
-use Rattle.scope.specs.File.Reader.{read, readRequest}
+use Rattle.scope.specs.File.Reader.{readRequest}
 use Rattle.scope.specs.Call.Calls.{requestIn}
 use Rattle.scope.specs.Call.Judge.{startOf, prints}
 use Rattle.scope.specs.Worked.Cases.{Case, case, twelve}
@@ -117,7 +118,7 @@ module _ (room : ℕ → List Obligation → Bool) (xs : List Step) where
 -- A text reads to a request, and no steps derive that request's goal, whatever the limits.
 pub record ForGood (c : Case) : Type 0 where
   pub request : Request
-  pub reads : readRequest (bytes (c .text)) ≡ read request
+  pub reads : readRequest (bytes (c .text)) ≡ result request
   pub not-derived : (room : ℕ → List Obligation → Bool) (xs : List Step) → Derivation room (startOf request) xs → ⊥
 
 -- Case P i of the twelve.
@@ -129,7 +130,7 @@ requestIn-case i = requestIn (readRequest (bytes (caseOf i .text)))
 
 -- What each text says: it reads, and its policy and goal are those above.
 record Reads-to (i k : ℕ) (policy : List Form) (goal : Form) : Type 0 where
-  reads : readRequest (bytes (caseOf i .text)) ≡ read (requestIn-case i)
+  reads : readRequest (bytes (caseOf i .text)) ≡ result (requestIn-case i)
   says-so : startOf (requestIn-case i) ≡ start plain k policy goal
 
 text2 : Reads-to 2 2 policy2 (atom 0)

@@ -7,6 +7,7 @@ use mathlib.Core.List.{List, [], _∷_, _++_, append-nil}
 use mathlib.Core.Bool.{Bool, true, false, cond}
 use native.Mathlib.Omega.{arith}
 use lib.ListN.{length}
+use Rattle.scope.specs.Call.Result.{result, refused}
 use Rattle.scope.specs.Logic.Facts.{Logic, plain}
 use Rattle.scope.specs.File.Request.{Request}
 use Rattle.scope.specs.Call.Answer.{told, furtherDown}
@@ -15,7 +16,7 @@ use Rattle.scope.specs.File.Stops.{byteStop, wordStop}
 use Rattle.scope.specs.File.Kinds.{formKinds, stepKinds}
 use Rattle.scope.specs.File.Refusals.{versionRefusal, principalsRefusal, atomsRefusal, formulasRefusal, formRefusal, clausesRefusal, clauseRefusal, goalRefusal, stepsRefusal, stepRefusal}
 use Rattle.scope.specs.File.Text.{versionLine, logicLine, principalsLine, atomsLine, formulasLine, formLine, clausesLine, clauseLine, goalLine, stepsLine, stepLine}
-use Rattle.scope.specs.File.Reader.{read, refused, formItem, clauseItem, stepItem, bodyLines, readLogic, requestLines, ended, readRequest}
+use Rattle.scope.specs.File.Reader.{formItem, clauseItem, stepItem, bodyLines, readLogic, requestLines, ended, readRequest}
 use Rattle.scope.specs.Limits.{mostVersion, mostPrincipals, mostAtoms, mostFormulas, mostPolicyLines, mostSteps}
 use Rattle.scope.specs.Limits.{versionAt, hasLogic, logicAt, extraLines, principalsAt, atomsAt, formulasAt, formAt, clausesAt, clauseAt, goalAt, stepsAt, stepAt, endAt}
 use Rattle.scope.specs.Tools.Tests.{never}
@@ -42,7 +43,7 @@ pub data Where (s : List ℕ) (k i column : ℕ) : Type 0 where
       ((l r : List ℕ) → cut 10 (b .rest) ≡ parts l r → (t : List ℕ) → readRequest (b .before ++ (l ++ 10 ∷ t)) ≡ refused (told k i column)) →
       Where s k i column
   -- of what follows the last step: cut off before it, the text reads
-  of-rest : (b : Before s i) (q : Request) → k ≡ 6 → column ≡ 0 → readRequest (b .before) ≡ read q → Where s k i column
+  of-rest : (b : Before s i) (q : Request) → k ≡ 6 → column ≡ 0 → readRequest (b .before) ≡ result q → Where s k i column
 
 -- The lines from `principals=` on, as version 1 counts them; behind them stands the line that `endAt` names.
 pub body-from : (version : ℕ) (logic : Logic) →
@@ -145,14 +146,14 @@ refused-where s k i column e = go (requestLines s) refl e
         (cc)
         (rw w refl)
 
-ended-read : (x : Read Request) (q : Request) → ended x ≡ read q → x ≡ ok q []
+ended-read : (x : Read Request) (q : Request) → ended x ≡ result q → x ≡ ok q []
 unfolding ended
 ended-read (ok p []) q e = cc
 ended-read (ok p (b ∷ rest)) q e = never cc
 ended-read (bad a) q e = never cc
 
 -- A text that reads is whole lines, and the line behind them, where nothing stands, is the one that `behind` names.
-pub read-lines : (s : List ℕ) (q : Request) → readRequest s ≡ read q →
+pub read-lines : (s : List ℕ) (q : Request) → readRequest s ≡ result q →
     (whole s ≡ true) × (behind q ≡ suc (lfs s))
 unfolding readRequest
 read-lines s q e =

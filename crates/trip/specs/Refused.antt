@@ -8,6 +8,7 @@ use mathlib.Core.Bool.{Bool, true, false, cond}
 use native.Mathlib.Omega.{arith}
 use lib.Dec.{leb}
 use lib.ListN.{length}
+use Rattle.scope.specs.Call.Result.{result, refused}
 use Rattle.scope.specs.Call.Answer.{Answer, told, answer, furtherDown}
 use Rattle.scope.specs.Logic.Facts.{Logic}
 use Rattle.scope.specs.File.Bytes.{bytes, joined}
@@ -18,10 +19,10 @@ use Rattle.scope.specs.Limits.{versionAt, extraLines, formAt, clausesAt, clause
 use Rattle.scope.specs.File.Kinds.{formKinds, stepKinds}
 use Rattle.scope.specs.File.Refusals.{demand, versionRefusal, unitRefusal, principalsRefusal, atomsRefusal, formulasRefusal, formRefusal, clausesRefusal, clauseRefusal, goalRefusal, stepsRefusal, stepRefusal}
 use Rattle.scope.specs.File.Text.{numberLine, versionLine, formulasLine, formLine, clausesLine, clauseLine, stepsLine, stepLine, logicLines, bodyText, requestText}
-use Rattle.scope.specs.File.Reader.{refused, formItem, clauseItem, stepItem, bodyLines, readLogic, requestLines, ended, readRequest}
+use Rattle.scope.specs.File.Reader.{formItem, clauseItem, stepItem, bodyLines, readLogic, requestLines, ended, readRequest}
 use Rattle.scope.specs.Call.Tables.{Lent, hasRoom, requestOf}
 use Rattle.scope.specs.Call.Checked.{firstMet, eachOf, bodyAnswers, lineAnswers, pastZero, checked}
-use Rattle.scope.specs.Call.Calls.{written, unwritten, writtenIf, writing}
+use Rattle.scope.specs.Call.Calls.{writtenIf, writing}
 use Rattle.scope.specs.Tools.Tests.{never, demand-passes}
 use Rattle.trip.specs.Cuts.{free, free-append, cut-there, strip-there}
 use Rattle.trip.specs.Words.{form-kinds-neat, step-kinds-neat}
@@ -255,26 +256,26 @@ checked-text t k i c g e =
 
 -- The same of the writer, whatever the output's length: refusal 14 and the refusal past the counts have place 0.
 pub text-unwritten :
-    (t : Lent) (len k i c : ℕ) → Sayable t → readRequest (requestText (requestOf t)) ≡ refused (told k i c) → writing t len ≡ unwritten (told k i c)
+    (t : Lent) (len k i c : ℕ) → Sayable t → readRequest (requestText (requestOf t)) ≡ refused (told k i c) → writing t len ≡ refused (told k i c)
 unfolding writing writtenIf
 text-unwritten t len k i c g e =
     let m = refused-lines (requestOf t) k i c (g .in-shape) e in
     rw (text-checked t k i c g e, m .1)
 
 pub unwritten-text :
-    (t : Lent) (len k i n : ℕ) → Sayable t → writing t len ≡ unwritten (told k (suc i) n)
+    (t : Lent) (len k i n : ℕ) → Sayable t → writing t len ≡ refused (told k (suc i) n)
     → readRequest (requestText (requestOf t)) ≡ refused (told k (suc i) n)
 unfolding writing writtenIf
 unwritten-text t len k i n g e = go (checked t) refl e
   where
-    fits : (b : Bool) (s : List ℕ) → cond b (written s) (unwritten (answer 14 0)) ≡ unwritten (told k (suc i) n) → _≡_ {A = ℕ} 0 1
+    fits : (b : Bool) (s : List ℕ) → cond b (result s) (refused (answer 14 0)) ≡ refused (told k (suc i) n) → _≡_ {A = ℕ} 0 1
     fits true s h = cc
     fits false s h =
         let z : _≡_ {A = ℕ} 0 (suc i) = cc in
         absurd (omega arith)
 
     go :
-        (a : Answer) → checked t ≡ a → writtenIf a (requestText (requestOf t)) len ≡ unwritten (told k (suc i) n)
+        (a : Answer) → checked t ≡ a → writtenIf a (requestText (requestOf t)) len ≡ refused (told k (suc i) n)
         → readRequest (requestText (requestOf t)) ≡ refused (told k (suc i) n)
     go (told zero p m) c h = never (fits (leb (length (requestText (requestOf t))) len) (requestText (requestOf t)) h)
     go (told (suc j) p m) c h =

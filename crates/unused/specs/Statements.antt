@@ -3,11 +3,11 @@ use Prim.Native.Nat.{ℕ, _*_}
 use mathlib.Core.Path.{_≡_, sym, ap, _∙_}
 use mathlib.Core.List.{List}
 use lib.ListN.{length, length-map}
+use Rattle.scope.specs.Call.Result.{result}
 use Rattle.scope.specs.File.Request.{Request}
 use Rattle.scope.specs.Call.Answer.{answer}
 use Rattle.scope.specs.Limits.{mostFormulas, mostPolicyLines, mostSteps}
 use Rattle.scope.specs.Logic.Obligation.{stepOf}
-use Rattle.scope.specs.File.Reader.{read}
 use Rattle.scope.specs.Call.Tables.{Lent, requestOf}
 use Rattle.scope.specs.Call.Checked.{checked}
 use Rattle.scope.specs.Call.Calls.{reading}
@@ -29,8 +29,8 @@ steps-read q r a = sym (length-map (q .steps) stepOf) ∙ ap length (a .steps) �
 
 -- Over files that both read without refusal: the gate prints the same four numbers.
 pub same-printed : (s t : List ℕ) (q r : Request) →
-    reading (3 * mostFormulas) mostPolicyLines (2 * mostSteps) s ≡ read q →
-    reading (3 * mostFormulas) mostPolicyLines (2 * mostSteps) t ≡ read r → Alike q r → gate s ≡ gate t
+    reading (3 * mostFormulas) mostPolicyLines (2 * mostSteps) s ≡ result q →
+    reading (3 * mostFormulas) mostPolicyLines (2 * mostSteps) t ≡ result r → Alike q r → gate s ≡ gate t
 unfolding gate printedAfter
 same-printed s t q r d e a = rw (d, e, same-answer q r a, steps-read q r a)
 

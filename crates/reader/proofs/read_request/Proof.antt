@@ -3,8 +3,9 @@ use mathlib.Core.Path.{_≡_, ap, sym, _∙_}
 use mathlib.Core.Bool.{Bool, true}
 use lib.ListN.{length, replicate}
 use borrow.Author.Tests.{not-true, not-false}
+use Rattle.scope.specs.Call.Result.{refused}
 use Rattle.scope.specs.Call.Answer.{answer}
-use Rattle.scope.specs.File.Reader.{Outcome, refused, readRequest}
+use Rattle.scope.specs.File.Reader.{Outcome, readRequest}
 use Rattle.scope.specs.Call.Tables.{table, formEntry, policyEntry, stepEntry, hasRoom}
 use Rattle.scope.specs.Call.Calls.{reading}
 use Rattle.reader.specs.Answers.{refusalIs, readingOf}

@@ -4,12 +4,13 @@ use mathlib.Core.List.{List, []}
 use mathlib.Core.Bool.{cond}
 use lib.Dec.{leb}
 use lib.ListN.{length}
+use Rattle.scope.specs.Call.Result.{Result, result, refused}
 use Rattle.scope.specs.Logic.Facts.{plain}
 use Rattle.scope.specs.File.Request.{Request}
 use Rattle.scope.specs.Call.Answer.{Answer, told, answer}
 use Rattle.scope.specs.Limits.{mostBytes}
 use Rattle.scope.specs.File.Text.{requestText}
-use Rattle.scope.specs.File.Reader.{Outcome, read, refused, readRequest}
+use Rattle.scope.specs.File.Reader.{Outcome, readRequest}
 use Rattle.scope.specs.Call.Tables.{Lent, formEntry, policyEntry, stepEntry, padded, table, hasRoom, requestOf, lentOf}
 use Rattle.scope.specs.Call.Checked.{checked}
 
@@ -19,16 +20,12 @@ unfolding hasRoom readRequest
 reading forms policy steps s =
     cond (hasRoom forms policy steps) (cond (leb (length s) mostBytes) (readRequest s) (refused (answer 1 0))) (refused (answer 13 0))
 
-unfoldable pub outcomeAnswer : Outcome → Answer
-outcomeAnswer (read q) = answer 0 0
-outcomeAnswer (refused a) = a
-
 -- 'The counts and the goal come in the answer; after a refusal they are 0.' So do version and logic.
 abbrev pub noRequest : Request
 noRequest = record { version = 0; logic = plain; principals = 0; atoms = 0; forms = []; policy = []; goal = 0; steps = [] }
 
 unfoldable pub requestIn : Outcome → Request
-requestIn (read q) = q
+requestIn (result q) = q
 requestIn (refused a) = noRequest
 
 -- The tables as they stand after reading, over the whole lent length: all zero after a refusal.
@@ -49,28 +46,23 @@ unfoldable pub lentAfter : ℕ → ℕ → ℕ → Outcome → Lent
 unfolding lentOf requestIn
 lentAfter forms policy steps o = lentOf forms policy steps (requestIn o)
 
-pub data Written : Type 0 where
-  written : List ℕ → Written
-  unwritten : Answer → Written
+abbrev pub Written : Type 0
+Written = Result (List ℕ)
 
 -- 'then 14': the output is shorter than the text.
 unfoldable pub writtenIf : Answer → List ℕ → ℕ → Written
-writtenIf (told zero place column) s len = cond (leb (length s) len) (written s) (unwritten (answer 14 0))
-writtenIf (told (suc k) place column) s len = unwritten (told (suc k) place column)
+writtenIf (told zero place column) s len = cond (leb (length s) len) (result s) (refused (answer 14 0))
+writtenIf (told (suc k) place column) s len = refused (told (suc k) place column)
 
 -- The output has length len.
 unfoldable pub writing : Lent → ℕ → Written
 unfolding checked requestOf requestText writtenIf
 writing t len = writtenIf (checked t) (requestText (requestOf t)) len
 
-unfoldable pub writtenAnswer : Written → Answer
-writtenAnswer (written s) = answer 0 0
-writtenAnswer (unwritten a) = a
-
 -- 'Its answer gives the text's length, 0 if refused.'
 unfoldable pub textIn : Written → List ℕ
-textIn (written s) = s
-textIn (unwritten a) = []
+textIn (result s) = s
+textIn (refused a) = []
 
 -- 'Written bytes are followed by zeros.'
 unfoldable pub outputAfter : ℕ → Written → List ℕ

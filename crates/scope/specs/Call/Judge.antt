@@ -2,6 +2,7 @@
 use Prim.Native.Nat.{ℕ, zero, suc, _*_}
 use mathlib.Core.List.{List, [], _∷_, map}
 use lib.ListN.{length}
+use Rattle.scope.specs.Call.Result.{result, refused}
 use Rattle.scope.specs.Logic.Form.{Form}
 use Rattle.scope.specs.File.Request.{Request, formula}
 use Rattle.scope.specs.Call.Answer.{Answer, told}
@@ -9,7 +10,7 @@ use Rattle.scope.specs.Limits.{mostFormulas, mostPolicyLines, mostSteps}
 use Rattle.scope.specs.Logic.Obligation.{Obligation, Step, stepOf, start}
 use Rattle.scope.specs.Logic.Room.{within}
 use Rattle.scope.specs.Logic.Walk.{walk}
-use Rattle.scope.specs.File.Reader.{Outcome, read, refused}
+use Rattle.scope.specs.File.Reader.{Outcome}
 use Rattle.scope.specs.Call.Tables.{Lent, requestOf}
 use Rattle.scope.specs.Call.Checked.{checked}
 use Rattle.scope.specs.Call.Calls.{reading}
@@ -55,7 +56,7 @@ printed (told k place column) steps = prints k place steps column
 
 unfoldable pub printedAfter : Outcome → Printed
 unfolding printed stepsAnswer
-printedAfter (read q) = printed (stepsAnswer q) (length (q .steps))
+printedAfter (result q) = printed (stepsAnswer q) (length (q .steps))
 printedAfter (refused a) = printed a 0
 
 -- The gate reads into tables of just the room that is asked for.

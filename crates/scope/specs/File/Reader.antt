@@ -3,6 +3,7 @@ use Prim.Native.Nat.{ℕ, suc}
 use mathlib.Core.List.{List, [], _∷_}
 use mathlib.Core.Bool.{cond}
 use lib.ListN.{length}
+use Rattle.scope.specs.Call.Result.{Result, result, refused}
 use Rattle.scope.specs.Logic.Facts.{Logic, plain}
 use Rattle.scope.specs.Call.Answer.{Answer, answer, furtherDown}
 use Rattle.scope.specs.File.Request.{Row, Request}
@@ -14,9 +15,8 @@ use Rattle.scope.specs.File.Kinds.{formKinds, stepKinds, logicKinds, row
 use Rattle.scope.specs.File.Refusals.{countRefusal, versionRefusal, principalsRefusal, atomsRefusal, formulasRefusal, formRefusal, clausesRefusal, clauseRefusal, goalRefusal, stepsRefusal, stepRefusal}
 use Rattle.scope.specs.File.Text.{versionLine, logicLine, principalsLine, atomsLine, formulasLine, formLine, clausesLine, clauseLine, goalLine, stepsLine, stepLine}
 
-pub data Outcome : Type 0 where
-  read : Request → Outcome
-  refused : Answer → Outcome
+abbrev pub Outcome : Type 0
+Outcome = Result Request
 
 -- One more `form=` line, behind the formulas before it; and the like.
 abbrev pub formItem : ℕ → ℕ → List Row → Reader Row
@@ -55,7 +55,7 @@ requestLines = do
 -- 'Nothing follows.' 'bytes after the last step'
 unfoldable pub ended : Read Request → Outcome
 unfolding furtherDown
-ended (ok q []) = read q
+ended (ok q []) = result q
 ended (ok q (b ∷ rest)) =
     refused (furtherDown (extraLines (q .version)) (answer 6 (endAt (length (q .forms)) (length (q .policy)) (length (q .steps)))))
 ended (bad a) = refused a

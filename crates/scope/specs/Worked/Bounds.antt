@@ -3,12 +3,13 @@ use Prim.Native.Nat.{ℕ, zero, suc, _+_, _-_}
 use mathlib.Core.Path.{_≡_, refl}
 use mathlib.Core.List.{List, [], _∷_, _++_, map}
 use lib.ListN.{replicate}
+use Rattle.scope.specs.Call.Result.{resultAnswer}
 use Rattle.scope.specs.Logic.Facts.{plain}
 use Rattle.scope.specs.Call.Answer.{Answer, answer}
 use Rattle.scope.specs.File.Request.{Row, Request}
 use Rattle.scope.specs.File.Bytes.{bytes}
 use Rattle.scope.specs.Call.Tables.{lentOf}
-use Rattle.scope.specs.Call.Calls.{writing, writtenAnswer}
+use Rattle.scope.specs.Call.Calls.{writing}
 use Rattle.scope.specs.Call.Judge.{prints, stepsAnswer, gate}
 
 abbrev pub row : ℕ → ℕ → ℕ → Row
@@ -196,7 +197,7 @@ texts-hold = refl
 
 -- The writer over tables too short, an output too short by one byte, and one that is just long enough: the text of `nested 0` is 85 bytes.
 pub writer-holds :
-    map writtenAnswer
+    map resultAnswer
     (writing (lentOf 3071 128 4096 (nested 0)) 85 ∷
     writing (lentOf 3072 127 4096 (nested 0)) 85 ∷
     writing (lentOf 3072 128 4095 (nested 0)) 85 ∷
@@ -204,5 +205,5 @@ pub writer-holds :
     writing (lentOf 3072 128 4096 (nested 0)) 85 ∷
     [])
     ≡ answer 13 0 ∷ answer 13 0 ∷ answer 13 0 ∷ answer 14 0 ∷ answer 0 0 ∷ []
-unfolding writing writtenAnswer lentOf nested
+unfolding writing resultAnswer lentOf nested
 writer-holds = refl

@@ -4,13 +4,13 @@ use Prim.Native.Nat.{ℕ}
 use mathlib.Core.Path.{_≡_, refl}
 use mathlib.Core.List.{List, [], _∷_, _++_, map}
 use lib.ListN.{replicate}
+use Rattle.scope.specs.Call.Result.{refused, resultAnswer}
 use Rattle.scope.specs.Logic.Facts.{Logic, plain, unit}
 use Rattle.scope.specs.Call.Answer.{told, answer}
 use Rattle.scope.specs.File.Bytes.{bytes}
-use Rattle.scope.specs.File.Reader.{refused}
 use Rattle.scope.specs.Call.Tables.{Lent, padded}
 use Rattle.scope.specs.Call.Checked.{checked}
-use Rattle.scope.specs.Call.Calls.{reading, outcomeAnswer, lentAfter, writing, writtenAnswer}
+use Rattle.scope.specs.Call.Calls.{reading, lentAfter, writing}
 use Rattle.scope.specs.Call.Judge.{judge}
 
 -- One principal, one atom, no policy lines; tables of these lengths, the numbers given and then zeros. Told with version and logic,
@@ -36,14 +36,14 @@ lent = lentAs 1 plain
 
 -- 13 before 1: a file of a byte too many, into a table too short by one, and into tables with room.
 pub room-before-length :
-    map outcomeAnswer
+    map resultAnswer
     (reading 3071 128 4096 (replicate 65537 120) ∷
     reading 3072 127 4096 (replicate 65537 120) ∷
     reading 3072 128 4095 (replicate 65537 120) ∷
     reading 3072 128 4096 (replicate 65537 120) ∷
     [])
     ≡ answer 13 0 ∷ answer 13 0 ∷ answer 13 0 ∷ answer 1 0 ∷ []
-unfolding reading outcomeAnswer
+unfolding reading resultAnswer
 room-before-length = refl
 
 -- Of tables, by what they hold.
@@ -98,10 +98,10 @@ refused-tables = refl
 
 -- 3 at place 0 comes before 14, for an output of no bytes.
 pub past-before-output :
-    map writtenAnswer
+    map resultAnswer
     (writing (tables 1 0 1 (1 ∷ 0 ∷ 0 ∷ 1 ∷ []) [] (5 ∷ [])) 0 ∷ writing (tables 1 0 1 (1 ∷ []) [] (5 ∷ [])) 0 ∷ [])
     ≡ answer 3 0 ∷ answer 14 0 ∷ []
-unfolding writing writtenAnswer padded
+unfolding writing resultAnswer padded
 past-before-output = refl
 
 -- The first operand comes first: goal bot imp p0 by `imp, absurd`, and p0 imp bot; goal 0 says top by `says, top`; `use 0` is a kind and

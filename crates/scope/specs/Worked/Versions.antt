@@ -5,12 +5,13 @@ use Prim.Native.String.{String}
 use mathlib.Core.Path.{_≡_, refl}
 use mathlib.Core.List.{List, [], _∷_, _++_, map}
 use lib.ListN.{take, drop}
+use Rattle.scope.specs.Call.Result.{result, resultAnswer}
 use Rattle.scope.specs.Logic.Facts.{Logic, plain, unit}
 use Rattle.scope.specs.File.Bytes.{bytes}
 use Rattle.scope.specs.Call.Answer.{answer}
 use Rattle.scope.specs.Call.Tables.{Lent, padded}
 use Rattle.scope.specs.Call.Checked.{checked}
-use Rattle.scope.specs.Call.Calls.{reading, lentAfter, writing, written, writtenAnswer}
+use Rattle.scope.specs.Call.Calls.{reading, lentAfter, writing}
 use Rattle.scope.specs.Call.Judge.{Printed, prints, gate, judge}
 use Rattle.scope.specs.Worked.Cases.{Case, case, twelve}
 use Rattle.scope.specs.Worked.Guards.{Tell}
@@ -142,17 +143,17 @@ told-tables = refl
 
 -- The judge and the writer give 16 too, the writer before 14.
 pub unit-in-version-1 :
-    (judge (toldTop 1 unit (1 ∷ []) (5 ∷ [])) ≡ answer 16 0) × (writtenAnswer (writing (toldTop 1 unit (1 ∷ []) (5 ∷ [])) 0) ≡ answer 16 0)
-unfolding judge writing writtenAnswer padded
+    (judge (toldTop 1 unit (1 ∷ []) (5 ∷ [])) ≡ answer 16 0) × (resultAnswer (writing (toldTop 1 unit (1 ∷ []) (5 ∷ [])) 0) ≡ answer 16 0)
+unfolding judge writing resultAnswer padded
 unit-in-version-1 = (refl, refl)
 
 -- What is written: in version 1 no second line, in version 2 that of its logic.
 pub heads-written :
     map (λ (t : Lent). writing t 200)
     (toldTop 1 plain (1 ∷ []) (5 ∷ []) ∷ toldTop 2 plain (1 ∷ []) (5 ∷ []) ∷ toldTop 2 unit (1 ∷ []) (5 ∷ []) ∷ [])
-    ≡ written (bytes "version=1\nprincipals=1\natoms=1\nformulas=1\nform=top\nclauses=0\ngoal=0\nsteps=1\nstep=top\n") ∷
-    written (bytes "version=2\nlogic=plain\nprincipals=1\natoms=1\nformulas=1\nform=top\nclauses=0\ngoal=0\nsteps=1\nstep=top\n") ∷
-    written (bytes "version=2\nlogic=unit\nprincipals=1\natoms=1\nformulas=1\nform=top\nclauses=0\ngoal=0\nsteps=1\nstep=top\n") ∷
+    ≡ result (bytes "version=1\nprincipals=1\natoms=1\nformulas=1\nform=top\nclauses=0\ngoal=0\nsteps=1\nstep=top\n") ∷
+    result (bytes "version=2\nlogic=plain\nprincipals=1\natoms=1\nformulas=1\nform=top\nclauses=0\ngoal=0\nsteps=1\nstep=top\n") ∷
+    result (bytes "version=2\nlogic=unit\nprincipals=1\natoms=1\nformulas=1\nform=top\nclauses=0\ngoal=0\nsteps=1\nstep=top\n") ∷
     []
 unfolding writing padded
 heads-written = refl
