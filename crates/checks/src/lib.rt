@@ -5,7 +5,7 @@ ghost use mathlib.Core.List.{[]};
 ghost use lib.ListN.{drop};
 ghost use Rattle.scope.specs.Call.Answer.{answer};
 ghost use Rattle.scope.specs.File.Refusals.{demand, rowRefusal, firstOf};
-ghost use Rattle.scope.specs.Call.Checked.{allZero, bodyAnswers, pastZero, checked};
+ghost use Rattle.scope.specs.Call.Checked.{allZero, bodyAnswers, pastZero, checked, lineAnswer};
 ghost use Rattle.scope.specs.Call.Tables.{hasRoom, unpack, formEntry, policyEntry, stepEntry, requestOf};
 ghost use Rattle.checks.specs.Met.{checkedOf, metIn, downOf, placeOf, lentWith};
 ghost use Prim.Native.Nat.{_≤_};
@@ -272,4 +272,23 @@ pub fn check_tables(counts: Counts, forms: &[u16], policy: &[u16], steps: &[u16]
         return lines;
     };
     answer_at(past_refusal(counts, forms, policy, steps), 0)
+}
+
+// What is asked of lent tables where no steps are lent: that of a request whose one step is `top`.
+pub fn check_lines(counts: Counts, forms: &[u16], policy: &[u16]) -> Checked
+    ensures { λ r. ⌜ r ≡ checkedOf (lineAnswer (lentWith counts (now (forms .entry)) (now (policy .entry)) [])) ⌝ }
+{
+    let mut steps = [0u16; common::STEP_ROOM];
+    steps[0] = 5;
+    let asked = Counts {
+        version: counts.version,
+        logic: counts.logic,
+        principals: counts.principals,
+        atoms: counts.atoms,
+        formulas: counts.formulas,
+        policy: counts.policy,
+        goal: counts.goal,
+        steps: 1,
+    };
+    check_tables(asked, forms, policy, &steps)
 }

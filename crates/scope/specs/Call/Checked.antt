@@ -9,9 +9,9 @@ use Rattle.scope.specs.Logic.Form.{both}
 use Rattle.scope.specs.File.Request.{Request}
 use Rattle.scope.specs.Call.Answer.{Answer, told, answer, furtherDown}
 use Rattle.scope.specs.File.Bytes.{joined}
-use Rattle.scope.specs.Limits.{versionAt, extraLines, principalsAt, atomsAt, formulasAt, formAt, clausesAt, clauseAt, goalAt, stepsAt, stepAt}
+use Rattle.scope.specs.Limits.{mostSteps, versionAt, extraLines, principalsAt, atomsAt, formulasAt, formAt, clausesAt, clauseAt, goalAt, stepsAt, stepAt}
 use Rattle.scope.specs.File.Refusals.{demand, countRefusal, versionRefusal, unitRefusal, principalsRefusal, atomsRefusal, formulasRefusal, formRefusal, clausesRefusal, clauseRefusal, goalRefusal, stepsRefusal, stepRefusal}
-use Rattle.scope.specs.Call.Tables.{Lent, hasRoom, requestOf}
+use Rattle.scope.specs.Call.Tables.{Lent, stepEntry, table, hasRoom, requestOf}
 
 -- 'The first met is the answer, with no other given.' An answer numbered 0 is no refusal.
 unfoldable pub firstMet : List Answer → Answer
@@ -73,3 +73,28 @@ checked t =
     lineAnswers (requestOf t) ∷
     (answer (demand (pastZero t) 3 0) 0 ∷ []) ∷
     []))
+
+-- 'the writer's first, steps left out', 'the judge's by line, steps left out': what is asked of the same tables with the one step `top`, in a
+-- table of just the room.
+abbrev pub oneStep : List ℕ
+oneStep = table stepEntry (2 * mostSteps) (record { kind = 5; left = 0; right = 0 } ∷ [])
+
+unfoldable pub withoutSteps : Lent → Lent
+withoutSteps t =
+    record {
+      version = t .version;
+      logic = t .logic;
+      principals = t .principals;
+      atoms = t .atoms;
+      formulas = t .formulas;
+      policy = t .policy;
+      goal = t .goal;
+      steps = 1;
+      formTable = t .formTable;
+      policyTable = t .policyTable;
+      stepTable = oneStep;
+    }
+
+unfoldable pub lineAnswer : Lent → Answer
+unfolding checked withoutSteps
+lineAnswer t = checked (withoutSteps t)
