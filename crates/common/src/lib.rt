@@ -2,7 +2,8 @@
 // of every call, and what stands at a place of a table.
 ghost use mathlib.Core.Path.{_≡_};
 ghost use Prim.Native.Nat.{suc};
-ghost use lib.ListN.{getD, set};
+ghost use lib.ListN.{length, getD, set, replicate};
+ghost use lib.Seq.{sets};
 ghost use Rattle.scope.specs.Logic.Form.{both};
 ghost use Rattle.scope.specs.Call.Tables.{hasRoom};
 ghost use Rattle.scope.specs.Limits.{versionAt, logicAt, extraLines, principalsAt, atomsAt, formulasAt, formAt, clausesAt, clauseAt, goalAt, stepsAt, stepAt, endAt};
@@ -193,5 +194,33 @@ pub fn put_entry(table: &mut [u16], at: usize, value: u16)
 {
     if at < table.len() {
         table[at] = value;
+    }
+}
+
+pub fn zero_bytes(out: &mut [u8])
+    ensures { λ _. ⌜ now (out .exit) ≡ replicate (length (now (out .entry))) 0 ⌝ }
+{
+    let mut i = 0;
+    while i < out.len() {
+        out[i] = 0;
+        i += 1;
+    }
+}
+
+// A text from a place on: what passes the end is not stored.
+pub fn put_bytes(out: &mut [u8], at: usize, text: &[u8])
+    ensures { λ _. ⌜ now (out .exit) ≡ sets (now (out .entry)) at (now (text .entry)) ⌝ }
+{
+    if out.len() <= at {
+        return;
+    }
+    let room = out.len() - at;
+    let mut i = 0;
+    while i < text.len() {
+        if room <= i {
+            return;
+        }
+        out[at + i] = text[i];
+        i += 1;
     }
 }
