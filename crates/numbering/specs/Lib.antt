@@ -5,3 +5,4 @@ pub mod Numbered
 pub mod Repeats
 pub mod Trees
 pub mod Refused
+pub mod Given

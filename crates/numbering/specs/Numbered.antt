@@ -34,7 +34,7 @@ pub record Numbered (t : List ℕ) (n : ℕ) (slots : List ℕ) : Type 0 where
   pub kept : (i : ℕ) → i < n → placeIn t slots (formRow t i) ≡ Taken i
 
 -- Row i of the first n.
-row-at : (t : List ℕ) (n i : ℕ) → i < n → getD (unpack formEntry n t) i noRow ≡ formRow t i
+pub row-at : (t : List ℕ) (n i : ℕ) → i < n → getD (unpack formEntry n t) i noRow ≡ formRow t i
 row-at t n i h = unpack-at formEntry n t i noRow h ∙ form-row t i
 
 zeros : (n s : ℕ) → _≡_ {A = ℕ} (getD (replicate n 0) s 0) 0

@@ -10,6 +10,7 @@ ghost use Rattle.scope.specs.File.Refusals.{sameRow};
 ghost use Rattle.numbering.specs.Slots.{headOf, keyOf, placeIn, keptAt, earlierAt, earlierOf};
 ghost use Rattle.numbering.specs.Repeats.{firstRepeat};
 ghost use Rattle.numbering.specs.Refused.{repeatRefusal};
+ghost use Rattle.numbering.specs.Given.{givenAt, rowPut, writtenAt};
 ghost use Rattle.scope.specs.File.Refusals.{firstOf};
 use common::MOST_FORMULAS;
 
@@ -31,6 +32,12 @@ pub enum Place {
 pub enum Earlier {
     At(u16),
     Nothing,
+}
+
+// The number that a row has in a table, or no room for one more.
+pub enum Given {
+    Number(u16),
+    Full,
 }
 
 fn same_row(forms: &[u16], i: u16, kind: u16, left: u16, right: u16) -> bool
@@ -187,4 +194,40 @@ pub fn first_repeat(forms: &[u16], count: u16) -> Earlier
         i += 1;
     }
     Earlier::Nothing
+}
+
+fn put_row(forms: &mut [u16], i: u16, kind: u16, left: u16, right: u16)
+    ensures { λ _. ⌜ now (forms .exit) ≡ rowPut (now (forms .entry)) i (row kind left right) ⌝ }
+{
+    let at = 3 * (i as usize);
+    let second = at + 1;
+    let third = at + 2;
+    common::put_entry(forms, at, kind);
+    common::put_entry(forms, second, left);
+    common::put_entry(forms, third, right);
+}
+
+// The number of a row in a table of `count` rows, to which it is added where it is not there.
+pub fn number_row(
+    forms: &mut [u16],
+    slots: &mut [u16; SLOTS],
+    count: u16,
+    kind: u16,
+    left: u16,
+    right: u16,
+) -> Given
+    ensures { λ r. ⌜ r ≡ givenAt (placeIn (now (forms .entry)) (now (slots .entry)) (row kind left right)) count ⌝ }
+    ensures { λ r. ⌜ now (forms .exit) ≡ writtenAt (placeIn (now (forms .entry)) (now (slots .entry)) (row kind left right)) count (row kind left right) (now (forms .entry)) ⌝ }
+    ensures { λ r. ⌜ now (slots .exit) ≡ keptAt (placeIn (now (forms .entry)) (now (slots .entry)) (row kind left right)) count (now (slots .entry)) ⌝ }
+{
+    let place = find_row(forms, slots, kind, left, right);
+    let Place::Taken(j) = place else {
+        if count < MOST_FORMULAS {
+            put_row(forms, count, kind, left, right);
+            keep_row(slots, place, count);
+            return Given::Number(count);
+        }
+        return Given::Full;
+    };
+    Given::Number(j)
 }
