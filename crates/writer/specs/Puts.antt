@@ -1,12 +1,11 @@
 -- A text put into the output from a place on: a byte is stored only where there is one, and the place counts on all the same.
 use Prim.Native.Nat.{ℕ, zero, suc, _+_, _-_, _≤_, _<_}
 use native.Mathlib.Nat.{add-suc, suc-add, add-zero, sub-zero, zero-sub, suc-sub-suc, le-trans}
-use native.Mathlib.Numerals.{add-one}
 use native.Mathlib.Omega.{arith}
 use mathlib.Core.Path.{_≡_, refl, ap, sym, _∙_}
 use mathlib.Core.List.{List, [], _∷_, _++_}
-use lib.ListN.{length, getD, drop, set, replicate, length-append, length-replicate, drop-of-length-le}
-use lib.Seq.{sets, sets-eq, drop-cons}
+use lib.ListN.{length, drop, set, replicate, length-append, length-replicate}
+use lib.Seq.{sets, sets-eq}
 use Rattle.scope.specs.Call.Tables.{padded}
 
 -- The output before and after, where the text begins and ends, and the most bytes that such a text has.
@@ -44,16 +43,6 @@ puts-none a at = record { stored = refl; counted = sym (add-zero at); short = om
 
 pub puts-one : (a : List ℕ) (at b : ℕ) → Puts a at (b ∷ []) 1 (set a at b) (at + 1)
 puts-one a at b = record { stored = refl; counted = refl; short = omega arith }
-
--- A text put byte by byte, i of them so far.
-pub puts-more : (a z s : List ℕ) (at i : ℕ) → i < length s → sets z (at + i) (drop i s) ≡ sets a at s →
-    sets (set z (at + i) (getD s i 0)) (at + (i + 1)) (drop (i + 1) s) ≡ sets a at s
-puts-more a z s at i h e =
-    let k : at + (i + 1) ≡ suc (at + i) = omega arith in
-    rw (k, add-one i) (rw (drop-cons s i 0 h) at e)
-
-pub puts-all : (a z s : List ℕ) (at i : ℕ) → length s ≤ i → sets z (at + i) (drop i s) ≡ sets a at s → z ≡ sets a at s
-puts-all a z s at i h e = rw (drop-of-length-le s h) at e
 
 drop-zeros : (k n : ℕ) → drop {A = ℕ} k (replicate n 0) ≡ replicate (n - k) 0
 drop-zeros zero n = ap (λ (m : ℕ). replicate m 0) (sym (sub-zero n))

@@ -8,7 +8,7 @@ mod put_lines;
 mod sections;
 
 ghost use mathlib.Core.Path.{_≡_};
-ghost use lib.ListN.{length, replicate};
+ghost use lib.ListN.{length};
 ghost use Rattle.scope.specs.Call.Calls.{writing, outputAfter};
 ghost use Rattle.checks.specs.Met.{lentWith};
 ghost use Rattle.writer.specs.Writing.{writingOf, refusedAs};
@@ -21,18 +21,8 @@ pub struct Writing {
     pub length: usize,
 }
 
-fn zero_all(out: &mut [u8])
-    ensures { λ _. ⌜ now (out .exit) ≡ replicate (length (now (out .entry))) 0 ⌝ }
-{
-    let mut i = 0;
-    while i < out.len() {
-        out[i] = 0;
-        i += 1;
-    }
-}
-
 // Called on a refusal alone: nothing reaches the first case.
-fn refused_as(checked: Checked) -> Writing
+pub fn refused_as(checked: Checked) -> Writing
     ensures { λ r. ⌜ r ≡ refusedAs checked ⌝ }
 {
     match checked {
@@ -59,14 +49,14 @@ pub fn write(
     ensures answered { λ r. ⌜ r ≡ writingOf (writing (lentWith counts (now (forms .entry)) (now (policy .entry)) (now (steps .entry))) (length (now (out .entry)))) ⌝ }
     ensures output { λ _. ⌜ now (out .exit) ≡ outputAfter (length (now (out .entry))) (writing (lentWith counts (now (forms .entry)) (now (policy .entry)) (now (steps .entry))) (length (now (out .entry)))) ⌝ }
 {
-    zero_all(out);
+    common::zero_bytes(out);
     let checked = checks::check_tables(counts, forms, policy, steps);
     let Checked::Fine = checked else {
         return refused_as(checked);
     };
     let length = put_request(counts, forms, policy, steps, out);
     if out.len() < length {
-        zero_all(out);
+        common::zero_bytes(out);
         return Writing {
             refusal: 14,
             place: 0,

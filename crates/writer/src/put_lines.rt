@@ -15,13 +15,8 @@ fn put_bytes(out: &mut [u8], at: usize, text: &[u8]) -> usize
     requires { ⌜ (at < 9990000) × (length (now text) ≤ 16) ⌝ }
     ensures { λ r. ⌜ Puts (now (out .entry)) at (now (text .entry)) 16 (now (out .exit)) r ⌝ }
 {
-    let mut i = 0;
-    while i < text.len() {
-        let next = at + i;
-        put_byte(out, next, text[i]);
-        i += 1;
-    }
-    at + i
+    common::put_bytes(out, at, text);
+    at + text.len()
 }
 
 // A line whose value is a number.

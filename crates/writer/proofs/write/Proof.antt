@@ -28,20 +28,20 @@ returns c =
     let checks = c .before .before .before .check-tables in
     let told = c .before .enum-told2 .given in
     let all = ends-refused t (length (a .out .now)) (checks .result) (told .0 .0) (checks .ensures) (told .1) in
-    (c .refused-as .ensures ∙ all .0, c .before .before .before .before .before .before .zero-all .ensures ∙ all .1)
+    (c .refused-as .ensures ∙ all .0, c .before .before .before .before .before .before .zero-bytes .ensures ∙ all .1)
 
 returns-2 : tie.Need-returns-2
 returns-2 c =
     let a = c .before .before .before .before .before .before .before .before .before .before .before .before .before .before .before .before .before .before .before .before .args in
     let t = lentWith (a .counts) (a .forms .now) (a .policy .now) (a .steps .now) in
     let len = length (a .out .now) in
-    let zero = c .before .before .before .before .before .before .before .before .before .before .before .before .before .before .zero-all in
+    let zero = c .before .before .before .before .before .before .before .before .before .before .before .before .before .before .zero-bytes in
     let checks = c .before .before .before .before .before .before .before .before .before .before .before .check-tables in
     let put = c .before .before .before .before .before .before .before .put-request in
     let same : length (put .last .1 .1 .1 .1 .0) ≡ len = put .kept .1 .1 .1 .1 .0 ∙ zero .kept .0 in
     let short : len < length (requestText (requestOf t)) = too-short {m = length (requestText (requestOf t))} same (put .ensures .counted) (c .before .before .before .before .if1 .taken) in
     let all = ends-short t len (checks .result) (checks .ensures) (c .before .before .before .before .before .before .before .before .before .enum-told .given .1) short in
-    (all .0, c .before .before .zero-all2 .ensures ∙ ap (λ (n : ℕ). replicate n 0) same ∙ all .1)
+    (all .0, c .before .before .zero-bytes2 .ensures ∙ ap (λ (n : ℕ). replicate n 0) same ∙ all .1)
 
 returns-3 : tie.Need-returns-3
 returns-3 c =
@@ -49,7 +49,7 @@ returns-3 c =
     let t = lentWith (a .counts) (a .forms .now) (a .policy .now) (a .steps .now) in
     let len = length (a .out .now) in
     let text = requestText (requestOf t) in
-    let zero = c .before .before .before .before .before .before .before .before .before .before .zero-all in
+    let zero = c .before .before .before .before .before .before .before .before .before .before .zero-bytes in
     let checks = c .before .before .before .before .before .before .before .check-tables in
     let put = c .before .before .before .put-request in
     let same : length (put .last .1 .1 .1 .1 .0) ≡ len = put .kept .1 .1 .1 .1 .0 ∙ zero .kept .0 in
