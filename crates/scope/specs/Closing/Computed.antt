@@ -14,6 +14,7 @@ les_given (le u v ∷ fs) first = here
 les_given (le u v ∷ fs) (later o) = there (les_given fs o)
 les_given (by a u v ∷ fs) o = there (les_given fs o)
 les_given (sf u a b ∷ fs) o = there (les_given fs o)
+les_given [] {u = u} {v = v} o = elim o [ ]
 
 pub given_le : {u v : ℕ} {fs : List Fact} → Among fs (le u v) → On (edge u v) (les_of fs)
 unfolding les_of
@@ -38,6 +39,7 @@ links_given (le u v ∷ fs) (later o) = link_later (links_given fs o)
 links_given (by a u v ∷ fs) first = link_by here
 links_given (by a u v ∷ fs) (later o) = link_later (links_given fs o)
 links_given (sf u a b ∷ fs) o = link_later (links_given fs o)
+links_given [] {u = u} {v = v} o = elim o [ ]
 
 pub le_links : {u v : ℕ} {fs : List Fact} → Among fs (le u v) → On (edge u v) (links_of fs)
 unfolding links_of
@@ -96,6 +98,7 @@ pairs_given links u (sf x c d ∷ fs) {a} {b} o =
     either_way true r first f = pair here (r.sound refl)
     either_way true r (later o) f = f o
     either_way false r o f = f o
+pairs_given links u [] {a = a} {b = b} o = elim o [ ]
 
 pub given_pair : (links : List Edge) (u : ℕ) {x a b : ℕ} {fs : List Fact} → Among fs (sf x a b) → Way links x u →
     On (edge a b) (pairs_at links u fs)

@@ -98,12 +98,14 @@ module _ (R : ℕ → ℕ → Type 0) (joined : Transitive R) where
   along (edge a b ∷ es) on x y (older p) = along es (λ c d o. on c d (later o)) x y p
   along (edge a b ∷ es) on x y (passing s t) =
       let f = along es (λ c d o. on c d (later o)) in before f s (after f (on a b first) t)
+  along [] on x y x4 = elim x4 [ ]
 
 pub path_joined : (es : List Edge) → Transitive (Path es)
 path_joined (edge a b ∷ es) x y z (older p) (older q) = older (path_joined es x y z p q)
 path_joined (edge a b ∷ es) x y z (older p) (passing s t) = passing (go (after (Path es) (path_joined es) (λ u v r. r) p s)) t
 path_joined (edge a b ∷ es) x y z (passing s t) (older q) = passing s (go (before (Path es) (path_joined es) (λ u v r. r) t q))
 path_joined (edge a b ∷ es) x y z (passing s t) (passing r q) = passing s q
+path_joined [] x y z x4 _ = elim x4 [ ]
 
 pub way_joined : {es : List Edge} {x y z : ℕ} → Way es x y → Way es y z → Way es x z
 way_joined stay w = w
