@@ -1,6 +1,8 @@
 // Judges the request files that the file `index` names, and compares what comes back with what the
 // index wants; each file that reads is also written back and compared with itself. A line for each
 // difference, and at the end how many there are.
+#![tactic(auto)]
+
 mod back;
 mod index;
 mod outcome;

@@ -1,5 +1,7 @@
 // The checks over counts and lent tables that writer and judge both make: 13; 16; then 3, 4, 15 or 5 at the line where the text has it;
 // then 3 at place 0 for a nonzero entry past the counts. The first met is the answer.
+#![tactic(auto)]
+
 ghost use Rattle.std.specs.Prelude.{◌≡◌, [], drop, ◌≤◌};
 ghost use Rattle.scope.specs.Call.Answer.{answer};
 ghost use Rattle.scope.specs.File.Refusals.{demand, row_refusal, first_of};

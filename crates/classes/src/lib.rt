@@ -1,4 +1,6 @@
 // The classes of a table's formulas, computed once from the first formula on: a formula's classes follow from those of its parts.
+#![tactic(auto)]
+
 ghost use Rattle.std.specs.Prelude.{◌≡◌, ◌*◌, min, get_or, take};
 ghost use Rattle.scope.specs.Limits.{most_formulas};
 ghost use Rattle.classes.specs.Class.{bit, goal_in, policy_in, clause_in, chunk_in, class_byte, and_class, or_class, imp_class, says_class, row_class, class_table};

@@ -1,5 +1,7 @@
 // How many bytes of a line can stand where it is refused 2: with one byte more, no line of the right shape begins so. The column that
 // request d) asks for is one more. Nothing here is asked of a line in shape.
+#![tactic(auto)]
+
 ghost use Rattle.std.specs.Prelude.{◌≡◌};
 ghost use Rattle.scope.specs.File.Kinds.{form_kinds, step_kinds, logic_kinds, kinds_stop};
 ghost use Rattle.scope.specs.File.Stops.{number_stop, none_stop, word_stop, end_stop, items_stop, larger};

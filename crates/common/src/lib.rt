@@ -1,5 +1,7 @@
 // What reader, checks, writer, judge and gate share: the limits of document 01, the lines of the file, the counts of a request, the answer
 // of every call, and what stands at a place of a table.
+#![tactic(auto)]
+
 ghost use Rattle.std.specs.Prelude.{◌≡◌, suc, length, get_or, set, replicate};
 ghost use Rattle.std.proofs.lemmas.List.Edits.{sets};
 ghost use Rattle.scope.specs.Logic.Form.{both};

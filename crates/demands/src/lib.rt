@@ -1,1 +1,2 @@
 // The three demands over the definitions: nothing here runs.
+#![tactic(auto)]

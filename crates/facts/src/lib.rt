@@ -1,5 +1,7 @@
 // The closed facts of a sequent, kept in rows of bits that the caller lends. A new world writes its own rows only, and a note only the
 // rows of sf of its own world, so nothing is ever closed again, and a waiting obligation saves no more than the rows of sf of its newest world.
+#![tactic(auto)]
+
 ghost use Rattle.std.specs.Prelude.{◌≡◌, get_or, set};
 ghost use Rattle.scope.specs.Logic.Facts.{le, by, sf};
 ghost use Rattle.facts.specs.Bits.{when};

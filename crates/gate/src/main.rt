@@ -1,5 +1,7 @@
 // The gate program: the request on standard input is judged, and the refusal number, the place, the
 // steps read and the column are printed.
+#![tactic(auto)]
+
 mod shown;
 
 ghost use Rattle.io.specs.Counts.{IsPrefixLen};

@@ -1,4 +1,6 @@
 // The gate: from the bytes of a file to the four numbers that are printed.
+#![tactic(auto)]
+
 ghost use Rattle.std.specs.Prelude.{◌≡◌};
 ghost use Rattle.scope.specs.Call.Judge.{gate as gate'};
 ghost use Rattle.gatelib.specs.Printing.{printed_of, unread_of};

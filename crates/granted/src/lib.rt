@@ -1,1 +1,2 @@
 // The theorems about the walk of steps: nothing here runs.
+#![tactic(auto)]

@@ -1,4 +1,6 @@
 // The judge: the checks over tables and counts, and then the answers about steps. It writes nowhere.
+#![tactic(auto)]
+
 ghost use Rattle.std.specs.Prelude.{◌≡◌};
 ghost use Rattle.scope.specs.Logic.Facts.{is_unit};
 ghost use Rattle.scope.specs.File.Kinds.{logic_of};

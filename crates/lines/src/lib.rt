@@ -1,5 +1,7 @@
 // What stands in a line of the request file: its value and the rest of the text, as parts of the file's own bytes, and
 // the numbers and kind words of a value.
+#![tactic(auto)]
+
 ghost use Rattle.std.specs.Prelude.{◌≡◌, ◌≤◌};
 ghost use Rattle.scope.specs.File.Number.{number};
 ghost use Rattle.scope.specs.File.Kinds.{same, items, numbers, form_kinds, step_kinds, logic_kinds, kind_from, row_in};

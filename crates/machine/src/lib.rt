@@ -1,4 +1,6 @@
 // The walk through the steps over tables of the open obligations, written in place.
+#![tactic(auto)]
+
 use common::MOST_CHUNKS;
 use moves::Phase;
 

@@ -1,4 +1,6 @@
 // The eighteen steps, each judged on small values: the phase of the current obligation, the row of its formula, the facts, the counts.
+#![tactic(auto)]
+
 use steps::{Principal, World};
 
 mod chunk;

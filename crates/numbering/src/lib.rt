@@ -1,5 +1,7 @@
 // Which earlier row of a table, if any, is equal to this one. The caller lends the slots in which the rows are kept: all 0 at first, then
 // each row in turn is looked for and, where it is not there, kept.
+#![tactic(auto)]
+
 ghost use Rattle.std.specs.Prelude.{◌≡◌, min};
 ghost use Rattle.scope.specs.Limits.{most_formulas};
 ghost use Rattle.scope.specs.Call.Tables.{unpack, form_entry};

@@ -1,5 +1,7 @@
 // Reader, writer, judge and gate for programs in other languages: `include/peraduksi.h` declares them for C, and the crate in `rust` wraps
 // them. A slice is a pointer and the count of its elements. None relies on a check made before.
+#![tactic(auto)]
+
 ghost use Rattle.std.specs.Prelude.{◌≡◌, length};
 ghost use Rattle.scope.specs.Call.Calls.{reading, form_table_after, policy_table_after, step_table_after, writing, output_after};
 ghost use Rattle.scope.specs.Call.Judge.{judge as judge', gate as gate'};

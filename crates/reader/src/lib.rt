@@ -1,4 +1,6 @@
 // Reads a request file into lent tables of 16-bit numbers: 3 a formula, 1 a policy line, 2 a step.
+#![tactic(auto)]
+
 ghost use Rattle.std.specs.Prelude.{◌≡◌, ◌*◌, ◌≤◌, length, replicate};
 ghost use Rattle.scope.specs.Call.Result.{result};
 ghost use Rattle.scope.specs.Limits.{most_bytes, most_formulas, most_policy_lines, most_steps};

@@ -1,4 +1,6 @@
 // The refusals of a row, whether it stands in a line of the file or in a lent table: 3 before 4, and 0 where there is none.
+#![tactic(auto)]
+
 ghost use Rattle.std.specs.Prelude.{◌≡◌};
 ghost use Rattle.scope.specs.File.Kinds.{form_kinds};
 ghost use Rattle.scope.specs.File.Refusals.{demand, row_refusal, step_refusal};

@@ -1,1 +1,2 @@
 // The definitions of document 01: nothing here runs.
+#![tactic(auto)]

@@ -1,4 +1,6 @@
 // Steps, and the numbers of worlds, principals and clauses: reader, facts and judge share them.
+#![tactic(auto)]
+
 ghost use Rattle.std.specs.Prelude.{◌≡◌};
 ghost use Rattle.steps.specs.Steps.{pair, step_from, pair_of};
 

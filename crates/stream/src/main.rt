@@ -4,6 +4,8 @@
 // A frame has at most 70,000 bytes, and the gate is handed at most 65,537 of them: one more than a
 // request may have tells it enough. A longer frame, or one that the input's end cuts short, ends the
 // program with no line for it.
+#![tactic(auto)]
+
 ghost use Rattle.std.specs.Prelude.{◌+◌, ◌*◌, ◌<◌, ◌≤◌, min, get_or, length, ◌≡◌};
 
 fn wide8(x: u8) -> usize

@@ -1,5 +1,7 @@
 // Hand-made tables for writer and judge, one case for each refusal of lent tables: the request P1 of
 // document 01 with one thing changed. For each case its name, the refusal and its place.
+#![tactic(auto)]
+
 mod lent;
 mod tried;
 

@@ -1,1 +1,2 @@
 // The theorems about policy lines that no step uses: nothing here runs.
+#![tactic(auto)]

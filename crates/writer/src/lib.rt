@@ -1,4 +1,6 @@
 // The writer: the text of lent tables, or the refusal of what no text says.
+#![tactic(auto)]
+
 use checks::Checked;
 use common::Counts;
 use sections::put_request;
