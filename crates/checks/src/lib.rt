@@ -20,7 +20,7 @@ use numbering::{Earlier, SLOTS};
 
 mod rows;
 
-#[derive(Drop)]
+#[derive(Clone, Copy)]
 pub enum Checked {
     Fine,
     Refused(Answer),

@@ -48,7 +48,7 @@ pub const STEP_ROOM: usize = 2 * (MOST_STEPS as usize);
 // Version and logic, the counts and the goal of a request, laid out for programs in other languages too. The logic is 0 for plain and 1 for
 // unit; a call that is told any other number takes it for unit.
 #[repr(C)]
-#[derive(Drop)]
+#[derive(Clone, Copy)]
 pub struct Counts {
     pub version: u16,
     pub logic: u16,
@@ -63,7 +63,7 @@ pub struct Counts {
 // What comes back: a refusal number of document 01, 0 where there is none, its place, and for 2 the column. Laid out for programs in other
 // languages too.
 #[repr(C)]
-#[derive(Drop)]
+#[derive(Clone, Copy)]
 pub struct Answer {
     pub refusal: u16,
     pub place: u32,

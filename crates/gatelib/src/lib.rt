@@ -9,7 +9,7 @@ use reader::Reading;
 
 // The refusal number, the place, the steps read (0 if reading is refused), and for refusal 2 the column.
 #[repr(C)]
-#[derive(Drop)]
+#[derive(Clone, Copy)]
 pub struct Printed {
     pub answer: u16,
     pub place: u32,

@@ -13,14 +13,14 @@ ghost use Rattle.lines.specs.Answers.{numberAnswer, rowAnswer};
 use common::{FORM_KINDS, STEP_KINDS};
 
 // A number, or the place of the first byte that cannot go on.
-#[derive(Drop)]
+#[derive(Clone, Copy)]
 pub enum Number {
     Value(u32),
     Bad(usize),
 }
 
 // The kind and the operands of a `form=` or `step=` value, 0 where the kind lacks one.
-#[derive(Drop)]
+#[derive(Clone, Copy)]
 pub enum Row {
     Items(usize, u32, u32),
     Bad,

@@ -9,7 +9,7 @@ mod goal;
 pub mod judging;
 
 // A row of the formula table.
-#[derive(Drop)]
+#[derive(Clone, Copy)]
 pub struct Row {
     pub kind: u16,
     pub left: u16,
@@ -17,14 +17,14 @@ pub struct Row {
 }
 
 // A formula, by its number, at a world.
-#[derive(Drop)]
+#[derive(Clone, Copy)]
 pub struct Lab {
     pub form: u16,
     pub at: World,
 }
 
 // A goal; a goal behind a number of chunks; a focus on a part of a clause, aiming at a target, which is an atom.
-#[derive(Drop)]
+#[derive(Clone, Copy)]
 pub enum Phase {
     Goal(Lab),
     Chunks(Lab, u16),
@@ -32,7 +32,7 @@ pub enum Phase {
 }
 
 // What a step that fits does to the current obligation.
-#[derive(Drop)]
+#[derive(Clone, Copy)]
 pub enum Move {
     // It is closed.
     Close,
@@ -58,14 +58,14 @@ pub enum Move {
     Case(u16, u16),
 }
 
-#[derive(Drop)]
+#[derive(Clone, Copy)]
 pub enum Judged {
     Fits(Move),
     No(u16),
 }
 
 // A clause to use, or none of that number.
-#[derive(Drop)]
+#[derive(Clone, Copy)]
 pub enum Found {
     At(Lab),
     Nothing,

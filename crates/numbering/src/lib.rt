@@ -25,21 +25,21 @@ pub const SLOTS: usize = HEADS + 2 * (MOST_FORMULAS as usize);
 const TURNS: usize = MOST_FORMULAS as usize + 1;
 
 // The number of the row that is equal; or the slot in which it would stand.
-#[derive(Drop)]
+#[derive(Clone, Copy)]
 pub enum Place {
     Taken(u16),
     Free(usize),
 }
 
 // The number of an earlier row that is equal, if there is one.
-#[derive(Drop)]
+#[derive(Clone, Copy)]
 pub enum Earlier {
     At(u16),
     Nothing,
 }
 
 // The number that a row has in a table, or no room for one more.
-#[derive(Drop)]
+#[derive(Clone, Copy)]
 pub enum Given {
     Number(u16),
     Full,

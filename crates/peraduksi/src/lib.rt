@@ -18,7 +18,7 @@ use writer::Writing;
 
 // The refusal, 0 where there is none, its place, for 2 the column, and version and logic, the counts and the goal, all 0 if refused.
 #[repr(C)]
-#[derive(Drop)]
+#[derive(Clone, Copy)]
 pub struct Read {
     pub refusal: u16,
     pub place: u32,

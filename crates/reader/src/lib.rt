@@ -24,49 +24,49 @@ mod policy_lines;
 mod step_lines;
 mod version_lines;
 
-#[derive(Drop)]
+#[derive(Clone, Copy)]
 pub enum Reading {
     Read(Counts),
     Refused(Answer),
 }
 
 // The number that a line has, or its refusal.
-#[derive(Drop)]
+#[derive(Clone, Copy)]
 enum NumberLine {
     Number(u16),
     Refused(u16),
 }
 
 // The kind and the operands that a line has, or its refusal.
-#[derive(Drop)]
+#[derive(Clone, Copy)]
 enum RowLine {
     Row(u16, u16, u16),
     Refused(u16),
 }
 
 // The step that a line has, or its refusal.
-#[derive(Drop)]
+#[derive(Clone, Copy)]
 enum StepLine {
     Step(Step),
     Refused(u16),
 }
 
 // Lines one after the other: how many bytes they take, or the first refusal.
-#[derive(Drop)]
+#[derive(Clone, Copy)]
 enum Section {
     Read(usize),
     Refused(Answer),
 }
 
 // The version and the logic that the first lines tell, and the bytes that they take; or the first refusal.
-#[derive(Drop)]
+#[derive(Clone, Copy)]
 enum Start {
     Read(u16, u16, usize),
     Refused(Answer),
 }
 
 // A part of the file: the counts up to its end, 0 where they come later, version and logic among them, and the bytes that it takes; or the first refusal.
-#[derive(Drop)]
+#[derive(Clone, Copy)]
 enum Part {
     Read(Counts, usize),
     Refused(Answer),

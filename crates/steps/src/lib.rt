@@ -5,17 +5,17 @@ ghost use Rattle.std.specs.Prelude.{◌≡◌};
 ghost use Rattle.steps.specs.Steps.{pair, step_from, pair_of};
 
 // The numbers of worlds, principals and clauses count separate things: none ever serves as another.
-#[derive(Drop)]
+#[derive(Clone, Copy)]
 pub struct World(pub u16);
 
-#[derive(Drop)]
+#[derive(Clone, Copy)]
 pub struct Principal(pub u16);
 
-#[derive(Drop)]
+#[derive(Clone, Copy)]
 pub struct Clause(pub u16);
 
 // A step is one of eighteen kinds, two of which carry a number.
-#[derive(Drop)]
+#[derive(Clone, Copy)]
 pub enum Step {
     And,
     Or1,
@@ -38,7 +38,7 @@ pub enum Step {
 }
 
 // A step as a line or a table has it: its kind, and the number beside it.
-#[derive(Drop)]
+#[derive(Clone, Copy)]
 pub struct Pair {
     pub kind: u16,
     pub number: u16,

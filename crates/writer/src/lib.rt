@@ -16,7 +16,7 @@ ghost use Rattle.writer.specs.Writing.{writing_of, refused_as};
 
 // The refusal, 0 where there is none, its place, and the text's length, 0 if refused.
 #[repr(C)]
-#[derive(Drop)]
+#[derive(Clone, Copy)]
 pub struct Writing {
     pub refusal: u16,
     pub place: u32,

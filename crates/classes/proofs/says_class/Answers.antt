@@ -1,0 +1,6 @@
+use Rattle.classes.specs.Class.{says_class}
+use Rattle.classes.proofs.says_class.Goals as goal
+
+pub returns : goal.returns
+unfolding says_class
+returns c = cc

@@ -1,0 +1,37 @@
+use Rattle.facts.specs.Rows.{principals_max}
+use Rattle.facts.specs.NewRows.{over_turn}
+use Rattle.facts.specs.Grown.{stored_le}
+use Rattle.facts.specs.Fill.{fill}
+use mathlib.Core.Path.{◌≡◌, refl}
+use Prim.Native.Nat.{◌<◌, ◌-◌}
+use native.Mathlib.Omega.{arith}
+use Rattle.facts.proofs.grow_le.Goals as goal
+
+pub loop-c-init : goal.loop-c-init
+unfolding fill
+loop-c-init c = (omega arith, refl)
+
+pub loop-c-preserved : goal.loop-c-preserved
+loop-c-preserved c =
+    let low : c.loop-c.c < principals_max = omega arith in (
+      omega arith,
+      over_turn _ c.new_world.new.rows _ _ _ low
+          c.place_of-from.ensures
+          c.place_of-at.ensures
+          c.loop-c.invariant.1
+          c.get_row-row.ensures
+          (λ e. e)
+          c.put_row.ensures,
+    )
+
+pub returns : goal.returns
+returns c =
+    let done : c.loop-c.c ≡ principals_max = omega arith in
+    stored_le _ _ _
+    (rw c.place_of.ensures at c.get_row-less.ensures)
+    (rw c.place_of-2.ensures at c.get_row-ways.ensures)
+    c.new_world.ensures
+    c.place_of-from.ensures
+    c.place_of-at.ensures
+    done
+    c.loop-c.invariant.1

@@ -1,0 +1,6 @@
+use Rattle.facts.specs.Rows.{told}
+use Rattle.facts.proofs.has_sf.Goals as goal
+
+pub returns : goal.returns
+unfolding told
+returns c = cc
