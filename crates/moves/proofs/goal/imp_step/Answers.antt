@@ -1,0 +1,16 @@
+use Rattle.moves.specs.Steps.{imp_step}
+use Rattle.moves.specs.Tests.{tests}
+use Rattle.moves.proofs.goal.imp_step.Goals as goal
+
+-- The kind is asked first (7), the number of worlds after it (10), as in the definition.
+pub returns-then-r-ne5 : goal.returns-then-r-ne5
+unfolding imp_step
+returns-then-r-ne5 c = search tests
+
+pub returns-then-worlds-ge-MOST_WORLDS : goal.returns-then-worlds-ge-MOST_WORLDS
+unfolding imp_step
+returns-then-worlds-ge-MOST_WORLDS c = search tests
+
+pub returns : goal.returns
+unfolding imp_step
+returns c = search tests

@@ -1,0 +1,6 @@
+use Rattle.moves.specs.Judge.{use_clause}
+use Rattle.moves.proofs.judging.use_clause.Goals as goal
+
+pub returns : goal.returns
+unfolding use_clause
+returns c = rw (← c.find_clause-found.ensures) c.use_step.ensures

@@ -1,0 +1,7 @@
+use mathlib.Core.Path.{refl}
+use Rattle.numbering.specs.Slots.{head_of}
+use Rattle.numbering.proofs.head_of.Goals as goal
+
+pub returns : goal.returns
+unfolding head_of
+returns c = refl

@@ -1,0 +1,7 @@
+use mathlib.Core.Path.{refl}
+use Rattle.numbering.specs.Slots.{key_of}
+use Rattle.numbering.proofs.key_of.Goals as goal
+
+pub returns : goal.returns
+unfolding key_of
+returns c = refl
