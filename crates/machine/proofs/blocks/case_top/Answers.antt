@@ -1,0 +1,8 @@
+use Rattle.machine.specs.Tables.{case_chunks}
+use Rattle.machine.proofs.blocks.case_top.Goals as goal
+
+pub returns : goal.returns
+unfolding case_chunks
+returns c =
+    rw (c.put_chunk.ensures, c.put_chunks.ensures, c.chunks_at-held.ensures, c.less_by-i.ensures)
+    at c.put_chunk-2.ensures

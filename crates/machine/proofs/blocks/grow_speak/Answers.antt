@@ -1,0 +1,4 @@
+use Rattle.machine.proofs.blocks.grow_speak.Goals as goal
+
+pub returns : goal.returns
+returns c = rw c.goal_in-g.ensures at c.grow_by.ensures

@@ -1,0 +1,4 @@
+use Rattle.machine.proofs.changes.after_speak.Goals as goal
+
+pub returns : goal.returns
+returns c = rw c.new_world-next.ensures at c.only_one.ensures

@@ -1,0 +1,4 @@
+use Rattle.machine.proofs.walking.judge_now.Goals as goal
+
+pub returns : goal.returns
+returns c = rw c.step_at-x.ensures at c.judge_step.ensures

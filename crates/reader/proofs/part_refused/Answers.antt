@@ -1,0 +1,6 @@
+use mathlib.Core.Path.{ap, sym}
+use Rattle.reader.specs.Answers.{partRefused}
+use Rattle.reader.proofs.part_refused.Goals as goal
+
+pub returns-in-Read : goal.returns-in-Read
+returns-in-Read c = ap partRefused (sym c.in-Read.is)

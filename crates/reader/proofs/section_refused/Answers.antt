@@ -1,0 +1,6 @@
+use mathlib.Core.Path.{ap, sym}
+use Rattle.reader.specs.Answers.{sectionRefused}
+use Rattle.reader.proofs.section_refused.Goals as goal
+
+pub returns-in-Read : goal.returns-in-Read
+returns-in-Read c = ap sectionRefused (sym c.in-Read.is)

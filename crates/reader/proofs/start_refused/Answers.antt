@@ -1,0 +1,6 @@
+use mathlib.Core.Path.{ap, sym}
+use Rattle.reader.specs.Answers.{startRefused}
+use Rattle.reader.proofs.start_refused.Goals as goal
+
+pub returns-in-Read : goal.returns-in-Read
+returns-in-Read c = ap startRefused (sym c.in-Read.is)
