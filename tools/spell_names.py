@@ -34,7 +34,7 @@ def declared():
     """The names that are declared: words, types, fields and constructors."""
     words, types, members = set(), set(), set()
     for path in own_files():
-        if path.endswith(("/Proof.antt", "/Answers.antt", "/Invariants.antt")):
+        if "/proofs/" in path and path.endswith(("/Proof.antt", "/Answers.antt", "/Invariants.antt")):
             continue
         inside = False
         for line in open(path, encoding="utf-8"):

@@ -32,7 +32,7 @@ pub(crate) fn count_line(text: &[u8], key: &[u8], least: u16, most: u16) -> Numb
 
 pub(crate) fn read_head(text: &[u8]) -> Part
     ensures value { result ≡ part_of headCounts (length text.now) (head_part text.now) }
-    ensures result_bound { formulaCount result ≤ most_formulas }
+    ensures few_formulas { formulaCount result ≤ most_formulas }
 {
     let principals = count_line(text, b"principals=", 1, common::MOST_PRINCIPALS);
     let NumberLine::Number(p) = principals else {

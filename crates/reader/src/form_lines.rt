@@ -90,7 +90,7 @@ pub(crate) fn read_formulas(text: &[u8], forms: &mut [u16]) -> Part
     requires { (3 * most_formulas ≤ length forms.old) × (forms.old ≡ replicate (length forms.old) 0) }
     ensures value { result ≡ part_of formulasCounts (length text.now) (formulas_part text.now) }
     ensures forms_after { (f : Formulas) (rest : List ℕ) → formulas_part text.now ≡ ok f rest → forms.new ≡ table form_entry (length forms.old) f.forms }
-    ensures result_bound { formulaCount result ≤ most_formulas }
+    ensures few_formulas { formulaCount result ≤ most_formulas }
 {
     let head = crate::first_lines::read_head(text);
     let Part::Read(counts, at) = head else {

@@ -68,7 +68,7 @@ fn read_clauses(
 ) -> Section
     requires { (clauses ≤ most_policy_lines) × (most_policy_lines ≤ length policy.old) × (policy.old ≡ replicate (length policy.old) 0) }
     ensures value { result ≡ sectionOf (length text.now) (many (classed_item classes.now formulas) clauses [] text.now) }
-    ensures by_index { (rows : List ℕ) (rest : List ℕ) → many (classed_item classes.now formulas) clauses [] text.now ≡ ok rows rest → policy.new ≡ table policy_entry (length policy.old) rows }
+    ensures policy_after { (rows : List ℕ) (rest : List ℕ) → many (classed_item classes.now formulas) clauses [] text.now ≡ ok rows rest → policy.new ≡ table policy_entry (length policy.old) rows }
 {
     let mut rest = text;
     let mut i: u16 = 0;

@@ -14,9 +14,6 @@ loop-i-preserved c = let n = c.args.numbers.now in
     let i = c.loop-i.i in
     (omega arith, ap (λ l. set l i 0) c.loop-i.invariant.1 ∙ fill_more i 0 n (omega arith), simp length-set c.loop-i.invariant.2)
 
-pub shape_of-numbers : goal.shape_of-numbers
-shape_of-numbers c = c.loop-i.invariant.2
-
 pub returns : goal.returns
 returns c = let n = c.args.numbers.now in
     let i = c.loop-i.i in

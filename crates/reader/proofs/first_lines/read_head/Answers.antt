@@ -25,7 +25,7 @@ returns-in_default c =
     c.number_refused.ensures ∙ (λ j. answer_of (refused_at principals_line (numberRefusal (c.in_default.is j)) (c.principals_at.ensures j) t)) in
     record {
       value = ap Part.Refused r ∙ head_refused (length t) (head_part t) (refused_at principals_line k principals_at t) (head_at_principals t (refused_at principals_line k principals_at t) e);
-      result_bound = omega arith;
+      few_formulas = omega arith;
     }
 
 pub returns-in_default-atoms : goal.returns-in_default-atoms
@@ -40,7 +40,7 @@ returns-in_default-atoms c =
     c.number_refused-in_default-atoms.ensures ∙ (λ j. answer_of (refused_at atoms_line (numberRefusal (c.in_default-atoms.is j)) (c.atoms_at.ensures j) s1)) in
     record {
       value = ap Part.Refused r ∙ head_refused (length t) (head_part t) (refused_at atoms_line k atoms_at s1) (head_at_atoms t p s1 e1 (refused_at atoms_line k atoms_at s1) e);
-      result_bound = omega arith;
+      few_formulas = omega arith;
     }
 
 pub returns-in_default-formulas : goal.returns-in_default-formulas
@@ -58,7 +58,7 @@ returns-in_default-formulas c =
     c.number_refused-in_default-formulas.ensures ∙ (λ j. answer_of (refused_at formulas_line (numberRefusal (c.in_default-formulas.is j)) (c.formulas_at.ensures j) s2)) in
     record {
       value = ap Part.Refused r ∙ head_refused (length t) (head_part t) (refused_at formulas_line k formulas_at s2) (head_at_formulas t p s1 e1 n s2 e2 (refused_at formulas_line k formulas_at s2) e);
-      result_bound = omega arith;
+      few_formulas = omega arith;
     }
 
 pub overflow_sub-at : goal.overflow_sub-at
@@ -85,5 +85,5 @@ returns c =
     let e3 = number_ok "formulas=" formulas_refusal formulas_at s2 s3 f c.rest_of-rest.ensures asked in
     record {
       value = head_read_lem (length t) (head_part t) p n f s3 (head_whole t p s1 e1 n s2 e2 f s3 e3);
-      result_bound = count_most 1 most_formulas (number (value_of (bytes "formulas=") s2)) f asked;
+      few_formulas = count_most 1 most_formulas (number (value_of (bytes "formulas=") s2)) f asked;
     }

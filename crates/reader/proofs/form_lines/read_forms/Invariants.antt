@@ -8,7 +8,7 @@ use Rattle.reader.proofs.form_lines.read_forms.Given as goal
 -- the formulas that are left.
 abbrev pub invariant-loop-i : goal.invariant-loop-i
 invariant-loop-i l =
-    FormTurns l.principals l.atoms l.formulas l.text (length l.initial.forms) l.slots l.rest l.i i
+    FormTurns l.principals l.atoms l.formulas l.text (length l.initial.forms) l.forms l.slots l.rest l.i
 
 abbrev pub decreases-loop-i : goal.decreases-loop-i
-decreases-loop-i l = l.formulas - i
+decreases-loop-i l = l.formulas - l.i

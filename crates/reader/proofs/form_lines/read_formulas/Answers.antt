@@ -21,7 +21,7 @@ returns-in_default c =
     record {
       value = r.0;
       forms_after = r.1;
-      result_bound = c.read_head-head.ensures.result_bound;
+      few_formulas = c.read_head-head.ensures.few_formulas;
     }
 
 pub slice_bounds-rest-count : goal.slice_bounds-rest-count
@@ -41,7 +41,7 @@ slice_bounds-rest-start c = let counts : HeadKept c.args.text.now = record {
      head_place counts
 
 pub read_forms-got-requires : goal.read_forms-got-requires
-read_forms-got-requires c = let few : c.in-Read.counts.formulas ≤ most_formulas = subst (λ h. formulaCount h ≤ most_formulas) c.in-Read.is c.read_head-head.ensures.result_bound in
+read_forms-got-requires c = let few : c.in-Read.counts.formulas ≤ most_formulas = subst (λ h. formulaCount h ≤ most_formulas) c.in-Read.is c.read_head-head.ensures.few_formulas in
     
     (few, c.requires.0, c.requires.1)
 
@@ -62,7 +62,7 @@ returns-in_default-got c = let counts : HeadKept c.args.text.now = record {
     record {
       value = r.0;
       forms_after = r.1;
-      result_bound = omega arith;
+      few_formulas = omega arith;
     }
 
 pub overflow_add-taken : goal.overflow_add-taken
@@ -74,7 +74,7 @@ overflow_add-taken c = let counts : HeadKept c.args.text.now = record {
     let forms : SectionKept form_entry (length (behind_head counts)) (forms_read counts) = record {
       at = c.in-Read-got.more;
       is = sym c.read_forms-got.ensures.value ∙ c.in-Read-got.is;
-      numbers = c.read_forms-got.new.principals.1.1.1.0;
+      numbers = c.read_forms-got.new.forms;
       len = length c.args.forms.now;
       stored = c.read_forms-got.ensures.forms_after;
     } in
@@ -94,15 +94,15 @@ returns c = let counts : HeadKept c.args.text.now = record {
     let forms : SectionKept form_entry (length (behind_head counts)) (forms_read counts) = record {
       at = c.in-Read-got.more;
       is = sym c.read_forms-got.ensures.value ∙ c.in-Read-got.is;
-      numbers = c.read_forms-got.new.principals.1.1.1.0;
+      numbers = c.read_forms-got.new.forms;
       len = length c.args.forms.now;
       stored = c.read_forms-got.ensures.forms_after;
     } in
-    let few : c.in-Read.counts.formulas ≤ most_formulas = subst (λ h. formulaCount h ≤ most_formulas) c.in-Read.is c.read_head-head.ensures.result_bound in
+    let few : c.in-Read.counts.formulas ≤ most_formulas = subst (λ h. formulaCount h ≤ most_formulas) c.in-Read.is c.read_head-head.ensures.few_formulas in
     
     let r = forms_joined counts forms in
     record {
       value = r.0;
       forms_after = r.1;
-      result_bound = few;
+      few_formulas = few;
     }

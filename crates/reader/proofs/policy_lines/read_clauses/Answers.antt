@@ -18,18 +18,15 @@ loop-i-init c =
     c.args.clauses c.args.text.now
     c.args.policy.now c.requires.2
 
-pub shape_of-policy-in_default : goal.shape_of-policy-in_default
-shape_of-policy-in_default c = c.loop-i.invariant.long
-
 pub returns-in_default : goal.returns-in_default
 returns-in_default c = let line : LineAsked "clause=" (clause_asked c.args.classes.now c.args.formulas) c.loop-i.rest.now = record { value = c.value_of-value.result.now; part = c.value_of-value.ensures; answer = c.clause_line-got.result; about = c.clause_line-got.ensures } in
-    
-    clause_stops c.args.classes.now
+     let all = clause_stops c.args.classes.now
     c.args.formulas
     c.loop-i.invariant c.loop-i-test.true
     line
     c.in_default.field-0 c.in_default.is c.number_refused.result
-    (c.number_refused.ensures ∙ (λ j. answer_of (refused_at clause_line (numberRefusal (c.in_default.is j)) (c.clause_at-place.ensures j) c.loop-i.rest.now)))
+    (c.number_refused.ensures ∙ (λ j. answer_of (refused_at clause_line (numberRefusal (c.in_default.is j)) (c.clause_at-place.ensures j) c.loop-i.rest.now))) in
+    record { value = all.0; policy_after = all.1 }
 
 pub overflow_cast-at : goal.overflow_cast-at
 overflow_cast-at c = let few : c.loop-i.i < most_policy_lines = omega (
@@ -116,12 +113,9 @@ loop-i-preserved c = let line : LineAsked "clause=" (clause_asked c.args.classes
 pub overflow_sub-taken : goal.overflow_sub-taken
 overflow_sub-taken c = c.loop-i.invariant.inside
 
-pub shape_of-policy : goal.shape_of-policy
-shape_of-policy c = c.loop-i.invariant.long
-
 pub returns : goal.returns
-returns c =
-    turns_end policy_entry (classed_item c.args.classes.now
+returns c = let all = turns_end policy_entry (classed_item c.args.classes.now
     c.args.formulas) c.args.clauses
     c.args.text.now
-    c.loop-i.invariant c.loop-i-test.false
+    c.loop-i.invariant c.loop-i-test.false in
+    record { value = all.0; policy_after = all.1 }

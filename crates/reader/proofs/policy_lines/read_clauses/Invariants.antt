@@ -9,7 +9,7 @@ use Rattle.reader.proofs.policy_lines.read_clauses.Given as goal
 -- is the lines that are left.
 abbrev pub invariant-loop-i : goal.invariant-loop-i
 invariant-loop-i l =
-    Turns policy_entry (classed_item l.classes l.formulas) l.clauses l.text (length l.initial.policy) l.i rest i
+    Turns policy_entry (classed_item l.classes l.formulas) l.clauses l.text (length l.initial.policy) l.policy l.rest l.i
 
 abbrev pub decreases-loop-i : goal.decreases-loop-i
-decreases-loop-i l = l.clauses - i
+decreases-loop-i l = l.clauses - l.i

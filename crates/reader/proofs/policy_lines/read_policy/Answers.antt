@@ -16,8 +16,7 @@ use Rattle.reader.specs.declared.Part.TheVariants as Part
 use Rattle.reader.proofs.policy_lines.read_policy.Goals as goal
 
 pub returns-in_default : goal.returns-in_default
-returns-in_default c =
-    let n = c.args.counts.formulas in
+returns-in_default c = let all = let n = c.args.counts.formulas in
     let t = c.args.text.now in
     let k = c.in_default.field-0 in
     part_refused (policyCounts c.args.counts) (length t)
@@ -25,7 +24,8 @@ returns-in_default c =
     (answer_of (refused_at clauses_line k (clauses_at n) t))
     (clauses_stopped c.args.forms.now n t k
     (sym c.count_line-count.ensures ∙ c.in_default.is))
-    (Part.Refused c.number_refused.result) (ap Part.Refused (c.number_refused.ensures ∙ (λ j. answer_of (refused_at clauses_line (numberRefusal (c.in_default.is j)) (c.clauses_at-place.ensures j) t))))
+    (Part.Refused c.number_refused.result) (ap Part.Refused (c.number_refused.ensures ∙ (λ j. answer_of (refused_at clauses_line (numberRefusal (c.in_default.is j)) (c.clauses_at-place.ensures j) t)))) in
+    record { value = all.0; policy_after = all.1; }
 
 pub read_clauses-got-requires : goal.read_clauses-got-requires
 read_clauses-got-requires c = (
@@ -48,8 +48,7 @@ returns-in_default-got c = let clauses : ClausesKept c.args.forms.now c.args.cou
       classes = c.classes_of-classes.result;
       tabled = c.classes_of-classes.ensures;
     } in
-    
-    let t = c.args.text.now in
+     let all = let t = c.args.text.now in
     let x = c.in_default-got.field-0 in
     part_refused (policyCounts c.args.counts) (length t)
     (policy_part (unpack form_entry
@@ -57,7 +56,8 @@ returns-in_default-got c = let clauses : ClausesKept c.args.forms.now c.args.cou
     c.args.forms.now) t) x
     (lines_stopped clauses x
     (sym c.read_clauses-got.ensures.value ∙ c.in_default-got.is))
-    (Part.Refused c.section_refused.result) (ap Part.Refused (c.section_refused.ensures ∙ ap sectionRefused c.in_default-got.is))
+    (Part.Refused c.section_refused.result) (ap Part.Refused (c.section_refused.ensures ∙ ap sectionRefused c.in_default-got.is)) in
+    record { value = all.0; policy_after = all.1; }
 
 pub slice_bounds-third-count : goal.slice_bounds-third-count
 slice_bounds-third-count c = let clauses : ClausesKept c.args.forms.now c.args.counts.formulas c.args.text.now = record {
@@ -72,9 +72,9 @@ slice_bounds-third-count c = let clauses : ClausesKept c.args.forms.now c.args.c
     let policy : SectionKept policy_entry (length c.rest_of-second.result.now) (lines_read clauses) = record {
       at = c.in-Read.at;
       is = sym c.read_clauses-got.ensures.value ∙ c.in-Read.is;
-      numbers = c.read_clauses-got.new.formulas.1.1.1.0;
+      numbers = c.read_clauses-got.new.policy;
       len = length c.args.policy.now;
-      stored = c.read_clauses-got.ensures.by_index;
+      stored = c.read_clauses-got.ensures.policy_after;
     } in
      lines_place clauses policy
 
@@ -91,9 +91,9 @@ slice_bounds-third-start c = let clauses : ClausesKept c.args.forms.now c.args.c
     let policy : SectionKept policy_entry (length c.rest_of-second.result.now) (lines_read clauses) = record {
       at = c.in-Read.at;
       is = sym c.read_clauses-got.ensures.value ∙ c.in-Read.is;
-      numbers = c.read_clauses-got.new.formulas.1.1.1.0;
+      numbers = c.read_clauses-got.new.policy;
       len = length c.args.policy.now;
-      stored = c.read_clauses-got.ensures.by_index;
+      stored = c.read_clauses-got.ensures.policy_after;
     } in
      lines_place clauses policy
 
@@ -110,15 +110,14 @@ returns-in_default-last c = let clauses : ClausesKept c.args.forms.now c.args.co
     let policy : SectionKept policy_entry (length c.rest_of-second.result.now) (lines_read clauses) = record {
       at = c.in-Read.at;
       is = sym c.read_clauses-got.ensures.value ∙ c.in-Read.is;
-      numbers = c.read_clauses-got.new.formulas.1.1.1.0;
+      numbers = c.read_clauses-got.new.policy;
       len = length c.args.policy.now;
-      stored = c.read_clauses-got.ensures.by_index;
+      stored = c.read_clauses-got.ensures.policy_after;
     } in
-    
-    let t = c.args.text.now in
+     let all = let t = c.args.text.now in
     let n = c.args.counts.formulas in
     let place = goal_at n c.in-Number.clauses in
-    let third = part_from (policy).at c.rest_of-second.result.now in
+    let third = part_from policy.at c.rest_of-second.result.now in
     let k = c.in_default-last.field-0 in
     part_refused (policyCounts c.args.counts) (length t)
     (policy_part (unpack form_entry n
@@ -127,7 +126,8 @@ returns-in_default-last c = let clauses : ClausesKept c.args.forms.now c.args.co
     (goal_stopped clauses
     policy k
     (sym c.goal_line-last.ensures ∙ c.in_default-last.is))
-    (Part.Refused c.number_refused-in_default-last.result) (ap Part.Refused (c.number_refused-in_default-last.ensures ∙ (λ j. answer_of (refused_at goal_line (numberRefusal (c.in_default-last.is j)) (c.goal_at-place.ensures j) third))))
+    (Part.Refused c.number_refused-in_default-last.result) (ap Part.Refused (c.number_refused-in_default-last.ensures ∙ (λ j. answer_of (refused_at goal_line (numberRefusal (c.in_default-last.is j)) (c.goal_at-place.ensures j) third)))) in
+    record { value = all.0; policy_after = all.1; }
 
 pub overflow_sub-taken : goal.overflow_sub-taken
 overflow_sub-taken c = let clauses : ClausesKept c.args.forms.now c.args.counts.formulas c.args.text.now = record {
@@ -142,9 +142,9 @@ overflow_sub-taken c = let clauses : ClausesKept c.args.forms.now c.args.counts.
     let policy : SectionKept policy_entry (length c.rest_of-second.result.now) (lines_read clauses) = record {
       at = c.in-Read.at;
       is = sym c.read_clauses-got.ensures.value ∙ c.in-Read.is;
-      numbers = c.read_clauses-got.new.formulas.1.1.1.0;
+      numbers = c.read_clauses-got.new.policy;
       len = length c.args.policy.now;
-      stored = c.read_clauses-got.ensures.by_index;
+      stored = c.read_clauses-got.ensures.policy_after;
     } in
     
     goal_inside clauses
@@ -165,13 +165,12 @@ returns c = let clauses : ClausesKept c.args.forms.now c.args.counts.formulas c.
     let policy : SectionKept policy_entry (length c.rest_of-second.result.now) (lines_read clauses) = record {
       at = c.in-Read.at;
       is = sym c.read_clauses-got.ensures.value ∙ c.in-Read.is;
-      numbers = c.read_clauses-got.new.formulas.1.1.1.0;
+      numbers = c.read_clauses-got.new.policy;
       len = length c.args.policy.now;
-      stored = c.read_clauses-got.ensures.by_index;
+      stored = c.read_clauses-got.ensures.policy_after;
     } in
-    
-    policy_joined (clauses
-    c)
+     let all = policy_joined clauses
     policy c.in-Number-last.goal c.rest_of-rest.result.now
     c.rest_of-rest.ensures
-    (sym c.goal_line-last.ensures ∙ c.in-Number-last.is) c.args.counts
+    (sym c.goal_line-last.ensures ∙ c.in-Number-last.is) c.args.counts in
+    record { value = all.0; policy_after = all.1; }

@@ -18,8 +18,7 @@ use native.Mathlib.Omega.{arith}
 use Rattle.reader.proofs.step_lines.read_proof.Goals as goal
 
 pub returns-in_default : goal.returns-in_default
-returns-in_default c =
-    let t = c.args.text.now in
+returns-in_default c = let all = let t = c.args.text.now in
     let place = steps_at c.args.counts.formulas c.args.counts.policy in
     let k = c.in_default.field-0 in
     part_refused (stepsCounts c.args.counts) (length t)
@@ -28,7 +27,8 @@ returns-in_default c =
     (steps_stopped c.args.counts.formulas
     c.args.counts.policy t k
     (sym c.count_line-line.ensures ∙ c.in_default.is))
-    (Part.Refused c.number_refused.result) (ap Part.Refused (c.number_refused.ensures ∙ (λ j. answer_of (refused_at steps_line (numberRefusal (c.in_default.is j)) (c.steps_at-place.ensures j) t))))
+    (Part.Refused c.number_refused.result) (ap Part.Refused (c.number_refused.ensures ∙ (λ j. answer_of (refused_at steps_line (numberRefusal (c.in_default.is j)) (c.steps_at-place.ensures j) t)))) in
+    record { value = all.0; steps_after = all.1 }
 
 pub read_steps-got-requires : goal.read_steps-got-requires
 read_steps-got-requires c = (
@@ -47,15 +47,15 @@ returns-in_default-got c = let counted : StepsCounted c.args.counts.formulas c.a
       rest = c.rest_of-rest.result.now;
       behind = c.rest_of-rest.ensures;
     } in
-    
-    let t = c.args.text.now in
+     let all = let t = c.args.text.now in
     let x = c.in_default-got.field-0 in
     part_refused (stepsCounts c.args.counts) (length t)
     (steps_part c.args.counts.formulas
     c.args.counts.policy t) x
     (rows_stopped counted x
     (sym c.read_steps-got.ensures.value ∙ c.in_default-got.is))
-    (Part.Refused c.section_refused.result) (ap Part.Refused (c.section_refused.ensures ∙ ap sectionRefused c.in_default-got.is))
+    (Part.Refused c.section_refused.result) (ap Part.Refused (c.section_refused.ensures ∙ ap sectionRefused c.in_default-got.is)) in
+    record { value = all.0; steps_after = all.1 }
 
 pub overflow_sub-before : goal.overflow_sub-before
 overflow_sub-before c =
@@ -73,7 +73,7 @@ overflow_add-taken c = let counted : StepsCounted c.args.counts.formulas c.args.
     let rows : SectionKept step_entry (length c.rest_of-rest.result.now) (rows_read counted) = record {
       at = c.in-Read.at;
       is = sym c.read_steps-got.ensures.value ∙ c.in-Read.is;
-      numbers = c.read_steps-got.new.formulas.1.1.1.0;
+      numbers = c.read_steps-got.new.steps;
       len = length c.args.steps.now;
       stored = c.read_steps-got.ensures.steps_after;
     } in
@@ -94,8 +94,9 @@ returns c = let counted : StepsCounted c.args.counts.formulas c.args.counts.poli
     let rows : SectionKept step_entry (length c.rest_of-rest.result.now) (rows_read counted) = record {
       at = c.in-Read.at;
       is = sym c.read_steps-got.ensures.value ∙ c.in-Read.is;
-      numbers = c.read_steps-got.new.formulas.1.1.1.0;
+      numbers = c.read_steps-got.new.steps;
       len = length c.args.steps.now;
       stored = c.read_steps-got.ensures.steps_after;
     } in
-     steps_joined counted rows c.args.counts
+     let all = steps_joined counted rows c.args.counts in
+    record { value = all.0; steps_after = all.1 }

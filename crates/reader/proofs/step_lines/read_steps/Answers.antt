@@ -18,18 +18,15 @@ loop-i-init c =
     c.args.text.now
     c.args.steps.now c.requires.2
 
-pub shape_of-steps-in_default : goal.shape_of-steps-in_default
-shape_of-steps-in_default c = c.loop-i.invariant.long
-
 pub returns-in_default : goal.returns-in_default
 returns-in_default c = let line : LineAsked "step=" step_asked c.loop-i.rest.now = record { value = c.value_of-value.result.now; part = c.value_of-value.ensures; answer = c.step_line-got.result; about = c.step_line-got.ensures } in
-    
-    step_stops c.args.formulas
+     let all = step_stops c.args.formulas
     c.args.clauses
     c.loop-i.invariant c.loop-i-test.true
     line
     c.in_default.field-0 c.in_default.is c.step_refused.result
-    (c.step_refused.ensures ∙ (λ j. answer_of (refused_at step_line (step_refused (c.in_default.is j)) (c.step_at-place.ensures j) c.loop-i.rest.now)))
+    (c.step_refused.ensures ∙ (λ j. answer_of (refused_at step_line (step_refused (c.in_default.is j)) (c.step_at-place.ensures j) c.loop-i.rest.now))) in
+    record { value = all.0; steps_after = all.1 }
 
 pub overflow_cast-at : goal.overflow_cast-at
 overflow_cast-at c = let few : c.loop-i.i < most_steps = omega (
@@ -159,11 +156,8 @@ loop-i-preserved c = let line : LineAsked "step=" step_asked c.loop-i.rest.now =
 pub overflow_sub-taken : goal.overflow_sub-taken
 overflow_sub-taken c = c.loop-i.invariant.inside
 
-pub shape_of-steps : goal.shape_of-steps
-shape_of-steps c = c.loop-i.invariant.long
-
 pub returns : goal.returns
-returns c =
-    turns_end step_entry (step_item c.args.formulas c.args.clauses)
+returns c = let all = turns_end step_entry (step_item c.args.formulas c.args.clauses)
     c.args.count c.args.text.now
-    c.loop-i.invariant c.loop-i-test.false
+    c.loop-i.invariant c.loop-i-test.false in
+    record { value = all.0; steps_after = all.1 }

@@ -9,7 +9,7 @@ use Rattle.reader.proofs.step_lines.read_steps.Given as goal
 -- steps that are left.
 abbrev pub invariant-loop-i : goal.invariant-loop-i
 invariant-loop-i l =
-    Turns step_entry (step_item l.formulas l.clauses) l.count l.text (length l.initial.steps) l.rest l.i i
+    Turns step_entry (step_item l.formulas l.clauses) l.count l.text (length l.initial.steps) l.steps l.rest l.i
 
 abbrev pub decreases-loop-i : goal.decreases-loop-i
-decreases-loop-i l = l.count - i
+decreases-loop-i l = l.count - l.i
