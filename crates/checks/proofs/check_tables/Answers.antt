@@ -19,7 +19,7 @@ pub further_down-lines-requires : goal.further_down-lines-requires
 further_down-lines-requires c =
     let a = c.args in
     let lent : Lent = lent_with a.counts a.forms.now a.policy.now a.steps.now in
-    (rw c.check_body-body.ensures (near_body (request_of lent)).near, rw c.extra_lines.ensures (few_lines a.counts.version))
+    (rw c.check_body-body.ensures (near_body (request_of lent)).near, rw c.extra_lines.ensures (few_lines _))
 
 pub returns-in_default-lines : goal.returns-in_default-lines
 returns-in_default-lines c =
