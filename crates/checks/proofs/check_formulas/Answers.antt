@@ -1,3 +1,4 @@
+use native.Mathlib.Omega.{arith}
 use mathlib.Core.Path.{sym, ◌∙◌}
 use Rattle.scope.specs.Call.Tables.{unpack, form_entry}
 use Rattle.checks.specs.MetLaws.{met_stop, met_go}
@@ -16,7 +17,7 @@ returns-in_default c =
 pub check_forms-requires : goal.check_forms-requires
 check_forms-requires c =
     let n = c.args.counts in
-    few_formulas n.principals n.atoms n.formulas (sym c.check_counts-count.ensures ∙ c.in-Fine.is)
+    omega (arith, few_formulas n.principals n.atoms n.formulas (sym c.check_counts-count.ensures ∙ c.in-Fine.is))
 
 pub returns : goal.returns
 returns c =
