@@ -1,3 +1,4 @@
+-- `checks::check_body` meets its contract: part by part, a refusal is the answer where the parts before it are fine, and the last part decides.
 use Prim.Native.Nat.{ℕ}
 use mathlib.Core.Path.{◌≡◌, ◌∙◌}
 use mathlib.Core.List.{List, ◌++◌}
@@ -8,7 +9,6 @@ use Rattle.checks.specs.MetLaws.{met_stop, met_go}
 use Rattle.checks.specs.Whole.{body_part, line_part, step_part, forms_stop, after_forms}
 use Rattle.checks.proofs.check_body.Goals as goal
 
--- `checks::check_body` meets its contract: part by part, a refusal is the answer where the parts before it are fine, and the last part decides.
 pub returns-in_default : goal.returns-in_default
 returns-in_default c =
     let a = c.args in

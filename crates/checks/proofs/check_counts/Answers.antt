@@ -1,3 +1,4 @@
+-- `checks::check_counts` meets its contract: the first count out of range is the answer, and the last one decides where the others are fine.
 use mathlib.Core.Path.{◌≡◌, ◌∙◌, sym}
 use mathlib.Core.List.{[], ◌∷◌}
 use Rattle.scope.specs.Call.Answer.{answer}
@@ -8,7 +9,6 @@ use Rattle.checks.specs.MetLaws.{met_one, one_stop, one_go}
 use Rattle.checks.specs.Answers.{countAnswers}
 use Rattle.checks.proofs.check_counts.Goals as goal
 
--- `checks::check_counts` meets its contract: the first count out of range is the answer, and the last one decides where the others are fine.
 pub returns-in_default : goal.returns-in_default
 unfolding countAnswers
 returns-in_default c =

@@ -1,3 +1,4 @@
+-- `checks::check_formulas` meets its contract: the counts come first, and where they are fine the formulas decide.
 use native.Mathlib.Omega.{arith}
 use mathlib.Core.Path.{sym, ◌∙◌}
 use Rattle.scope.specs.Call.Tables.{unpack, form_entry}
@@ -6,7 +7,6 @@ use Rattle.checks.specs.Answers.{countAnswers, formAnswers}
 use Rattle.checks.specs.FormTurns.{few_formulas}
 use Rattle.checks.proofs.check_formulas.Goals as goal
 
--- `checks::check_formulas` meets its contract: the counts come first, and where they are fine the formulas decide.
 pub returns-in_default : goal.returns-in_default
 returns-in_default c =
     let n = c.args.counts in

@@ -1,3 +1,4 @@
+-- `checks::check_head` meets its contract: the first refusal is the answer, and the version decides where the others are fine.
 use mathlib.Core.Path.{◌≡◌, ◌∙◌, sym}
 use mathlib.Core.List.{[], ◌∷◌}
 use Rattle.scope.specs.Call.Answer.{Answer, answer}
@@ -10,7 +11,6 @@ use Rattle.checks.specs.MetLaws.{met_one, one_stop, one_go}
 use Rattle.checks.specs.Answers.{headAnswers}
 use Rattle.checks.proofs.check_head.Goals as goal
 
--- `checks::check_head` meets its contract: the first refusal is the answer, and the version decides where the others are fine.
 -- Each answer names what is asked, and what each check of it gave.
 pub returns-in_default : goal.returns-in_default
 unfolding headAnswers

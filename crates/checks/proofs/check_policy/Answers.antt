@@ -1,3 +1,4 @@
+-- `checks::check_policy` meets its contract: the count comes first, and where it is fine the lines decide.
 use mathlib.Core.Path.{◌≡◌, ◌∙◌}
 use Rattle.scope.specs.Call.Answer.{answer}
 use Rattle.scope.specs.Limits.{clauses_at}
@@ -8,7 +9,6 @@ use Rattle.checks.specs.MetLaws.{one_stop, one_go}
 use Rattle.checks.specs.Answers.{policyAnswers}
 use Rattle.checks.proofs.check_policy.Goals as goal
 
--- `checks::check_policy` meets its contract: the count comes first, and where it is fine the lines decide.
 pub returns-in_default : goal.returns-in_default
 returns-in_default c =
     let a = c.args in

@@ -1,3 +1,4 @@
+-- `checks::check_proof` meets its contract: the goal comes first, then the count, and where both are fine the steps decide.
 use mathlib.Core.Path.{◌≡◌, ◌∙◌}
 use mathlib.Core.List.{◌∷◌}
 use Rattle.scope.specs.Call.Answer.{answer}
@@ -11,7 +12,6 @@ use Rattle.refusals.specs.Rows.{class_refusal}
 use Rattle.checks.specs.Answers.{goalAnswers, stepAnswers}
 use Rattle.checks.proofs.check_proof.Goals as goal
 
--- `checks::check_proof` meets its contract: the goal comes first, then the count, and where both are fine the steps decide.
 pub returns-in_default : goal.returns-in_default
 unfolding goalAnswers
 returns-in_default c =

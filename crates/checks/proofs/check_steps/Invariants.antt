@@ -1,10 +1,10 @@
+-- `checks::check_steps` meets its contract: in turn i the answers about the first i steps are fine, and answer i is that about row i.
 use Prim.Native.Nat.{◌-◌}
 use Rattle.scope.specs.Call.Tables.{unpack, step_entry}
 use Rattle.checks.specs.MetLaws.{Passed}
 use Rattle.checks.specs.Answers.{stepAnswers}
 use Rattle.checks.proofs.check_steps.Given as goal
 
--- `checks::check_steps` meets its contract: in turn i the answers about the first i steps are fine, and answer i is that about row i.
 abbrev pub invariant-loop-i : goal.invariant-loop-i
 invariant-loop-i l = Passed l.count (stepAnswers l.formulas l.policy (unpack step_entry l.count l.steps)) l.i
 

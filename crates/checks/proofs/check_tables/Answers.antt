@@ -1,3 +1,4 @@
+-- `checks::check_tables` meets its contract: the head first, then the lines where they stand, and what is past the counts decides last.
 use mathlib.Core.Path.{◌≡◌, ◌∙◌}
 use Rattle.scope.specs.Call.Tables.{Lent, request_of}
 use Rattle.scope.specs.Limits.{extra_lines}
@@ -7,7 +8,6 @@ use Rattle.checks.specs.Whole.{past_met, head_stop, down_stop, after_down}
 use Rattle.checks.specs.Near.{near_body}
 use Rattle.checks.proofs.check_tables.Goals as goal
 
--- `checks::check_tables` meets its contract: the head first, then the lines where they stand, and what is past the counts decides last.
 pub returns-in_default : goal.returns-in_default
 returns-in_default c =
     let a = c.args in

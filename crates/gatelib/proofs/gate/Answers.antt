@@ -1,3 +1,5 @@
+-- `gatelib::gate` meets its contract: what the reader refuses is printed with no steps, and else what the judge answers on the tables that
+-- reading left, which say the request that was read.
 use mathlib.Core.Path.{sym, ap, ◌∙◌}
 use Rattle.gatelib.specs.Printing.{unread_of, unread_prints, read_prints}
 use Rattle.gatelib.proofs.gate.Goals as goal

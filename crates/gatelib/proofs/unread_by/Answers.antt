@@ -1,3 +1,4 @@
+-- `gatelib::unread_by`: each case of what the reader answers has its number and place, and no steps.
 use Rattle.gatelib.specs.Printing.{unread_of}
 use Rattle.gatelib.proofs.unread_by.Goals as goal
 

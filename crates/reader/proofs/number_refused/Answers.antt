@@ -1,3 +1,4 @@
+-- `reader::number_refused` meets its contract, case by case.
 use mathlib.Core.Path.{ap, sym, ◌∙◌}
 use Rattle.columns.specs.Shapes.{number_with}
 use Rattle.scope.specs.Call.Answer.{column_for}

@@ -1,3 +1,4 @@
+-- `reader::part_refused` meets its contract, case by case.
 use mathlib.Core.Path.{ap, sym}
 use Rattle.reader.specs.Answers.{partRefused}
 use Rattle.reader.proofs.part_refused.Goals as goal

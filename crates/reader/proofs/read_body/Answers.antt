@@ -1,3 +1,4 @@
+-- `reader::read_body` meets its contract: each section is read from where the one before it ends, and the first refusal is the answer.
 use Prim.Native.Nat.{◌≤◌}
 use mathlib.Core.Path.{ap, sym, subst, ◌∙◌}
 use lib.ListN.{length}

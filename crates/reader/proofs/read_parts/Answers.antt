@@ -1,3 +1,4 @@
+-- `reader::read_parts` meets its contract: the first lines tell version and logic, and what is read behind them is told with both.
 use native.Mathlib.Omega.{arith}
 use mathlib.Core.Path.{sym, ap, ◌∙◌}
 use Rattle.scope.specs.File.Reader.{read_request}

@@ -1,3 +1,4 @@
+-- `reader::read_request` meets its contract: 13, then 1, then the lines; the tables are zeroed at the start and again after a refusal.
 use mathlib.Core.Path.{◌≡◌, ap, sym, ◌∙◌}
 use mathlib.Core.Bool.{Bool, true}
 use lib.ListN.{length, replicate}

@@ -1,3 +1,4 @@
+-- `reader::section_refused` meets its contract, case by case.
 use mathlib.Core.Path.{ap, sym}
 use Rattle.reader.specs.Answers.{sectionRefused}
 use Rattle.reader.proofs.section_refused.Goals as goal

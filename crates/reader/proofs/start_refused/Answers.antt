@@ -1,3 +1,4 @@
+-- `reader::start_refused` meets its contract, case by case.
 use mathlib.Core.Path.{ap, sym}
 use Rattle.reader.specs.Answers.{startRefused}
 use Rattle.reader.proofs.start_refused.Goals as goal

@@ -1,3 +1,4 @@
+-- `reader::told_with` meets its contract: the counts get version and logic, and a place that is near has room for the lines above it.
 use native.Mathlib.Omega.{arith}
 use Prim.Native.Nat.{◌≤◌}
 use mathlib.Core.Path.{refl}
@@ -5,7 +6,6 @@ use Rattle.common.specs.Lines.{few_lines}
 use Rattle.reader.specs.Answers.{toldWith, place_of}
 use Rattle.reader.proofs.told_with.Goals as goal
 
--- `reader::told_with` meets its contract: the counts get version and logic, and a place that is near has room for the lines above it.
 pub overflow_add-result : goal.overflow_add-result
 unfolding place_of
 overflow_add-result c =

@@ -1,3 +1,4 @@
+-- `reader::first_lines::read_head` meets its contract: each line is read from the rest behind the one before it, and the first refusal is the answer.
 use mathlib.Core.Path.{◌≡◌, ap, sym, ◌∙◌}
 use lib.ListN.{length}
 use Rattle.scope.specs.File.Text.{principals_line, atoms_line, formulas_line}
@@ -15,7 +16,6 @@ use Rattle.reader.specs.declared.Part.TheVariants as Part
 use native.Mathlib.Omega.{arith}
 use Rattle.reader.proofs.first_lines.read_head.Goals as goal
 
--- `reader::first_lines::read_head` meets its contract: each line is read from the rest behind the one before it, and the first refusal is the answer.
 pub returns-in_default : goal.returns-in_default
 returns-in_default c =
     let t = c.args.text.now in

@@ -1,3 +1,4 @@
+-- `reader::form_lines::form_line` meets its contract: out of shape is 2, and a row in shape has its own refusal; one that passes is small.
 use mathlib.Core.Path.{sym, ◌∙◌}
 use Rattle.scope.specs.File.Kinds.{form_kinds}
 use Rattle.scope.specs.File.Refusals.{row_refusal}

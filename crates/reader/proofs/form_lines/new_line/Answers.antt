@@ -1,3 +1,4 @@
+-- `reader::form_lines::new_line` meets its contract: a refusal of the row stands; a row that the slots know is 15; any other is kept.
 use mathlib.Core.Path.{◌∙◌}
 use mathlib.Core.List.{List}
 use Prim.Native.Nat.{ℕ}
@@ -10,7 +11,6 @@ use Rattle.refusals.specs.Rows.{row}
 use Rattle.reader.specs.NewRows.{still_refused, then_refused, then_taken, slots_refused, slots_stand, slots_kept, taken_same, repeated, fresh}
 use Rattle.reader.proofs.form_lines.new_line.Goals as goal
 
--- `reader::form_lines::new_line` meets its contract: a refusal of the row stands; a row that the slots know is 15; any other is kept.
 abbrev again : List ℕ → List ℕ → Row → ℕ
 again forms slots r = repeat_refusal (earlier_at (place_in forms slots r))
 

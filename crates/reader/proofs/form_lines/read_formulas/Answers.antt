@@ -1,3 +1,4 @@
+-- `reader::form_lines::read_formulas` meets its contract: the `form=` lines are read from where the first four lines end.
 use Prim.Native.Nat.{◌≤◌}
 use mathlib.Core.Path.{ap, sym, subst, ◌∙◌}
 use lib.ListN.{length}

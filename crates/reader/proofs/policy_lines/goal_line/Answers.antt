@@ -1,3 +1,4 @@
+-- `reader::policy_lines::goal_line` meets its contract: the class is asked of a number that is a formula's.
 use mathlib.Core.Path.{◌≡◌, ap, sym, ◌∙◌}
 use Rattle.scope.specs.File.Bytes.{bytes}
 use Rattle.scope.specs.File.Number.{number}

@@ -1,3 +1,4 @@
+-- `reader::policy_lines::read_policy` meets its contract: the classes of the formulas are computed once, and the lines and the goal are asked of them.
 use mathlib.Core.Path.{ap, sym, ◌∙◌}
 use lib.ListN.{length}
 use Rattle.scope.specs.File.Bytes.{bytes}

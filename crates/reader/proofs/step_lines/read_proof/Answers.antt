@@ -1,3 +1,4 @@
+-- `reader::step_lines::read_proof` meets its contract: the `step=` lines are read from behind the count of steps.
 use mathlib.Core.Path.{ap, sym, ◌∙◌}
 use lib.ListN.{length}
 use Rattle.scope.specs.File.Bytes.{bytes}

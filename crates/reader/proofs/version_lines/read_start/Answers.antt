@@ -1,3 +1,4 @@
+-- `reader::version_lines::read_start` meets its contract: the second line is read where the first tells version 2, and the first refusal is the answer.
 use mathlib.Core.Path.{◌≡◌, refl, ap, sym, ◌∙◌}
 use lib.ListN.{length}
 use Rattle.scope.specs.File.Text.{version_line, logic_line}
@@ -13,7 +14,6 @@ use Rattle.reader.specs.declared.Start.TheVariants as Start
 use native.Mathlib.Omega.{arith}
 use Rattle.reader.proofs.version_lines.read_start.Goals as goal
 
--- `reader::version_lines::read_start` meets its contract: the second line is read where the first tells version 2, and the first refusal is the answer.
 pub returns-in_default : goal.returns-in_default
 returns-in_default c =
     let t = c.args.text.now in
