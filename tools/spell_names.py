@@ -21,7 +21,8 @@ MEMBER = re.compile(rf"^\s+(?:pub\s+)?((?:{NAME}\s+)*{NAME})\s*:(?:\s|$)")
 INNER = re.compile(rf"^\s+(?:(?:pub|abbrev|unfoldable)\s+)*({NAME})(?:\s*\{{[^{{}}]*\}})*\s*:(?:\s|$)")
 
 # Lemmas that had their present spelling before this script, and would have the name of a definition now.
-LEMMAS = {"has_room", "all_digits", "is_digit", "same_row", "step_row", "by_row", "on_and", "on_or", "with_fact", "row_put", "head_read", "in_order"}
+LEMMAS = {"has_room", "all_digits", "is_digit", "same_row", "step_row", "by_row", "on_and", "on_or", "with_fact", "row_put", "head_read", "in_order",
+          "part_refused", "section_refused", "start_refused"}
 # Definitions that are facts, and so are spelled as types.
 FACTS = {"fitsIn": "FitsIn"}
 

@@ -121,9 +121,9 @@ request_start : (s : List ℕ) → request_lines s ≡ and_then (start_part s) b
 unfolding request_lines start_part ◌>>=◌ and_then
 request_start s = simp after_assoc
 
-pub start_refused : (s : List ℕ) (a : Answer) → start_part s ≡ bad a → read_request s ≡ refused a
+pub start_refused_lem : (s : List ℕ) (a : Answer) → start_part s ≡ bad a → read_request s ≡ refused a
 unfolding read_request ended and_then
-start_refused s a e = rw (request_start s, e) refl
+start_refused_lem s a e = rw (request_start s, e) refl
 
 pub start_read : (s : List ℕ) (h : Told) (rest : List ℕ) → start_part s ≡ ok h rest →
     read_request s ≡ headed_outcome h.version h.logic (body_request rest)

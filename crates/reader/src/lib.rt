@@ -11,7 +11,7 @@ ghost use Rattle.scope.specs.Call.Calls.{reading, form_table_after, policy_table
 ghost use Rattle.scope.specs.File.Text.{logic_line, form_line, step_line};
 ghost use Rattle.columns.specs.Shapes.{number_with};
 ghost use Rattle.common.specs.Answers.{answer_of};
-ghost use Rattle.reader.specs.Answers.{refused_at, numberRefusal, rowRefused, step_refused, sectionRefused, partRefused, startRefused, reading_of, toldWith, place_of};
+ghost use Rattle.reader.specs.Answers.{refused_at, number_refusal, row_refused, step_refused, section_refused, part_refused, start_refused, reading_of, told_with, place_of};
 ghost use Rattle.reader.specs.Whole.{body_request};
 
 use common::{Answer, Counts};
@@ -76,7 +76,7 @@ enum Part {
 // reaches the other case, which gives number 0.
 fn number_refused(line: NumberLine, place: u32, text: &[u8], key: &[u8]) -> Answer
     requires { length key.now ≤ 11 }
-    ensures { result ≡ answer_of (refused_at (number_with key.now) (numberRefusal line) place text.now) }
+    ensures { result ≡ answer_of (refused_at (number_with key.now) (number_refusal line) place text.now) }
 {
     match line {
         NumberLine::Number(_) => Answer {
@@ -93,7 +93,7 @@ fn number_refused(line: NumberLine, place: u32, text: &[u8], key: &[u8]) -> Answ
 }
 
 fn row_refused(line: RowLine, place: u32, text: &[u8]) -> Answer
-    ensures { result ≡ answer_of (refused_at form_line (rowRefused line) place text.now) }
+    ensures { result ≡ answer_of (refused_at form_line (row_refused line) place text.now) }
 {
     match line {
         RowLine::Row(_, _, _) => Answer {
@@ -127,7 +127,7 @@ fn step_refused(line: StepLine, place: u32, text: &[u8]) -> Answer
 }
 
 fn logic_refused(line: NumberLine, place: u32, text: &[u8]) -> Answer
-    ensures { result ≡ answer_of (refused_at logic_line (numberRefusal line) place text.now) }
+    ensures { result ≡ answer_of (refused_at logic_line (number_refusal line) place text.now) }
 {
     match line {
         NumberLine::Number(_) => Answer {
@@ -144,7 +144,7 @@ fn logic_refused(line: NumberLine, place: u32, text: &[u8]) -> Answer
 }
 
 fn section_refused(section: Section) -> Answer
-    ensures { result ≡ sectionRefused section }
+    ensures { result ≡ section_refused section }
 {
     match section {
         Section::Read(_) => Answer {
@@ -157,7 +157,7 @@ fn section_refused(section: Section) -> Answer
 }
 
 fn part_refused(part: Part) -> Answer
-    ensures { result ≡ partRefused part }
+    ensures { result ≡ part_refused part }
 {
     match part {
         Part::Read(_, _) => Answer {
@@ -170,7 +170,7 @@ fn part_refused(part: Part) -> Answer
 }
 
 fn start_refused(start: Start) -> Answer
-    ensures { result ≡ startRefused start }
+    ensures { result ≡ start_refused start }
 {
     match start {
         Start::Read(_, _, _) => Answer {
@@ -228,7 +228,7 @@ fn read_body(text: &[u8], forms: &mut [u16], policy: &mut [u16], steps: &mut [u1
 // The refusal of a line or the counts of a body, told with the version and the logic before them.
 fn told_with(body: Reading, version: u16, logic: u16) -> Reading
     requires { place_of body ≤ 70000 }
-    ensures { result ≡ toldWith version logic body }
+    ensures { result ≡ told_with version logic body }
 {
     match body {
         Reading::Read(counts) => Reading::Read(Counts {

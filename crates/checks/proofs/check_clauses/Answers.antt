@@ -1,6 +1,6 @@
 use Rattle.scope.specs.Call.Tables.{unpack, policy_entry}
 use Rattle.checks.specs.MetLaws.{passed_none, passed_all, Turn, turn_of, turn_stop, turn_go}
-use Rattle.checks.specs.Answers.{policyAnswers}
+use Rattle.checks.specs.Answers.{policy_answers}
 use Rattle.checks.specs.Sections.{lines_length, line_at}
 use Rattle.checks.proofs.check_clauses.Goals as goal
 
@@ -15,7 +15,7 @@ returns-in_default c =
     let i = c.loop-i.i in
     let more = c.loop-i-test.true in
     let gave = c.answer_at-line in
-    let turn : Turn a.count (policyAnswers a.classes.now a.formulas (unpack policy_entry a.count a.policy.now)) i gave.result =
+    let turn : Turn a.count (policy_answers a.classes.now a.formulas (unpack policy_entry a.count a.policy.now)) i gave.result =
     turn_of more c.loop-i.invariant (line_at a.classes.now a.formulas a.count a.policy.now i more)
     (rw c.entry_at.ensures at (rw (c.clause_refusal-number.ensures, c.clause_at.ensures) at gave.ensures)) in
     turn_stop turn c.in_default.is
@@ -26,7 +26,7 @@ loop-i-preserved c =
     let i = c.loop-i.i in
     let more = c.loop-i-test.true in
     let gave = c.answer_at-line in
-    let turn : Turn a.count (policyAnswers a.classes.now a.formulas (unpack policy_entry a.count a.policy.now)) i gave.result =
+    let turn : Turn a.count (policy_answers a.classes.now a.formulas (unpack policy_entry a.count a.policy.now)) i gave.result =
     turn_of more c.loop-i.invariant (line_at a.classes.now a.formulas a.count a.policy.now i more)
     (rw c.entry_at.ensures at (rw (c.clause_refusal-number.ensures, c.clause_at.ensures) at gave.ensures)) in
     turn_go turn c.in-Fine.is

@@ -2,11 +2,11 @@
 use Prim.Native.Nat.{◌-◌}
 use Rattle.scope.specs.Call.Tables.{unpack, policy_entry}
 use Rattle.checks.specs.MetLaws.{Passed}
-use Rattle.checks.specs.Answers.{policyAnswers}
+use Rattle.checks.specs.Answers.{policy_answers}
 use Rattle.checks.proofs.check_clauses.Given as goal
 
 abbrev pub invariant-loop-i : goal.invariant-loop-i
-invariant-loop-i l = Passed l.count (policyAnswers l.classes l.formulas (unpack policy_entry l.count l.policy)) l.i
+invariant-loop-i l = Passed l.count (policy_answers l.classes l.formulas (unpack policy_entry l.count l.policy)) l.i
 
 abbrev pub decreases-loop-i : goal.decreases-loop-i
 decreases-loop-i l = l.count - l.i

@@ -3,14 +3,14 @@ use native.Mathlib.Omega.{arith}
 use mathlib.Core.Path.{sym, ◌∙◌}
 use Rattle.scope.specs.Call.Tables.{unpack, form_entry}
 use Rattle.checks.specs.MetLaws.{met_stop, met_go}
-use Rattle.checks.specs.Answers.{countAnswers, formAnswers}
+use Rattle.checks.specs.Answers.{count_answers, form_answers}
 use Rattle.checks.specs.FormTurns.{few_formulas}
 use Rattle.checks.proofs.check_formulas.Goals as goal
 
 pub returns-in_default : goal.returns-in_default
 returns-in_default c =
     let n = c.args.counts in
-    met_stop (countAnswers n.principals n.atoms n.formulas) (formAnswers n.principals n.atoms (unpack form_entry n.formulas c.args.forms.now))
+    met_stop (count_answers n.principals n.atoms n.formulas) (form_answers n.principals n.atoms (unpack form_entry n.formulas c.args.forms.now))
     c.check_counts-count.result c.in_default.field-0 c.check_counts-count.ensures c.in_default.is
 
 -- Counts that are fine are few enough for the slots.
@@ -23,5 +23,5 @@ pub returns : goal.returns
 returns c =
     let n = c.args.counts in
     c.check_forms.ensures ∙
-    met_go (countAnswers n.principals n.atoms n.formulas) (formAnswers n.principals n.atoms (unpack form_entry n.formulas c.args.forms.now))
+    met_go (count_answers n.principals n.atoms n.formulas) (form_answers n.principals n.atoms (unpack form_entry n.formulas c.args.forms.now))
     c.check_counts-count.result c.check_counts-count.ensures c.in-Fine.is

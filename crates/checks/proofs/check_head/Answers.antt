@@ -8,12 +8,12 @@ use Rattle.scope.specs.File.Kinds.{logic_of}
 use Rattle.scope.specs.File.Refusals.{demand, unit_refusal, version_refusal}
 use Rattle.checks.specs.Met.{checked_of}
 use Rattle.checks.specs.MetLaws.{met_one, one_stop, one_go}
-use Rattle.checks.specs.Answers.{headAnswers}
+use Rattle.checks.specs.Answers.{head_answers}
 use Rattle.checks.proofs.check_head.Goals as goal
 
 -- Each answer names what is asked, and what each check of it gave.
 pub returns-in_default : goal.returns-in_default
-unfolding headAnswers
+unfolding head_answers
 returns-in_default c =
     let a = c.args in
     let n = a.counts in
@@ -25,7 +25,7 @@ returns-in_default c =
     one_stop room (unit ∷ version ∷ []) first.result c.in_default.field-0 room-gave c.in_default.is
 
 pub returns-in_default-unit : goal.returns-in_default-unit
-unfolding headAnswers
+unfolding head_answers
 returns-in_default-unit c =
     let a = c.args in
     let n = a.counts in
@@ -40,7 +40,7 @@ returns-in_default-unit c =
     one_go room (unit ∷ version ∷ []) first.result room-gave c.in-Fine.is
 
 pub returns : goal.returns
-unfolding headAnswers
+unfolding head_answers
 returns c =
     let a = c.args in
     let n = a.counts in

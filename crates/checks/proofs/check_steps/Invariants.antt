@@ -2,11 +2,11 @@
 use Prim.Native.Nat.{◌-◌}
 use Rattle.scope.specs.Call.Tables.{unpack, step_entry}
 use Rattle.checks.specs.MetLaws.{Passed}
-use Rattle.checks.specs.Answers.{stepAnswers}
+use Rattle.checks.specs.Answers.{step_answers}
 use Rattle.checks.proofs.check_steps.Given as goal
 
 abbrev pub invariant-loop-i : goal.invariant-loop-i
-invariant-loop-i l = Passed l.count (stepAnswers l.formulas l.policy (unpack step_entry l.count l.steps)) l.i
+invariant-loop-i l = Passed l.count (step_answers l.formulas l.policy (unpack step_entry l.count l.steps)) l.i
 
 abbrev pub decreases-loop-i : goal.decreases-loop-i
 decreases-loop-i l = l.count - l.i

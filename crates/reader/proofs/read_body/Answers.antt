@@ -4,7 +4,7 @@ use mathlib.Core.Path.{ap, sym, subst, ◌∙◌}
 use lib.ListN.{length}
 use Rattle.scope.specs.Limits.{most_formulas, end_at}
 use Rattle.reader.specs.Whole.{body_request}
-use Rattle.reader.specs.Answers.{refusalIs, formulaCount, partRefused}
+use Rattle.reader.specs.Answers.{refusal_is, formula_count, part_refused}
 use Rattle.reader.specs.Outcomes.{FormulasKept, PolicyKept, StepsKept, formulas_end, formulas_place, policy_end, policy_place, steps_end, bytes_after, all_read, refused_all}
 use Rattle.reader.proofs.read_body.Goals as goal
 
@@ -17,7 +17,7 @@ part_refused-requires c = tt
 pub returns-in_default : goal.returns-in_default
 returns-in_default c = let all = refused_all (body_request c.args.text.now)
     c.in_default.field-0 c.part_refused.result
-    (c.part_refused.ensures ∙ ap partRefused c.in_default.is)
+    (c.part_refused.ensures ∙ ap part_refused c.in_default.is)
     (formulas_end c.args.text.now
     c.in_default.field-0
     (sym c.read_formulas-first.ensures.value ∙ c.in_default.is)) in
@@ -47,7 +47,7 @@ slice_bounds-second-start c = let formulas : FormulasKept c.args.text.now = reco
 
 pub read_policy-middle-requires : goal.read_policy-middle-requires
 read_policy-middle-requires c = (
-  subst (λ h. formulaCount h ≤ most_formulas) c.in-Read.is
+  subst (λ h. formula_count h ≤ most_formulas) c.in-Read.is
       c.read_formulas-first.ensures.few_formulas,
   c.requires.2,
   c.requires.3,
@@ -68,7 +68,7 @@ returns-in_default-middle c = let formulas : FormulasKept c.args.text.now = reco
      let all = refused_all (body_request
     c.args.text.now)
     c.in_default-middle.field-0 c.part_refused-in_default-middle.result
-    (c.part_refused-in_default-middle.ensures ∙ ap partRefused c.in_default-middle.is)
+    (c.part_refused-in_default-middle.ensures ∙ ap part_refused c.in_default-middle.is)
     (policy_end formulas
     c.in_default-middle.field-0
     (sym c.read_policy-middle.ensures.value ∙ c.in_default-middle.is)) in
@@ -140,7 +140,7 @@ returns-in_default-last c = let formulas : FormulasKept c.args.text.now = record
      let all = refused_all (body_request
     c.args.text.now)
     c.in_default-last.field-0 c.part_refused-in_default-last.result
-    (c.part_refused-in_default-last.ensures ∙ ap partRefused c.in_default-last.is)
+    (c.part_refused-in_default-last.ensures ∙ ap part_refused c.in_default-last.is)
     (steps_end formulas
     policy c.in_default-last.field-0
     (sym c.read_proof-last.ensures.value ∙ c.in_default-last.is)) in
@@ -173,7 +173,7 @@ returns-then-end-third c = let formulas : FormulasKept c.args.text.now = record 
     } in
      let all = let place = end_at c.in-Read-last.counts.formulas c.in-Read-last.counts.policy c.in-Read-last.counts.steps in
     refused_all (body_request
-    c.args.text.now) (refusalIs 6 place) (refusalIs 6 c.end_at-place.result) (ap (refusalIs 6) c.end_at-place.ensures)
+    c.args.text.now) (refusal_is 6 place) (refusal_is 6 c.end_at-place.result) (ap (refusal_is 6) c.end_at-place.ensures)
     (bytes_after formulas
     policy steps c.if-end-third.true) in
     record { value = all.0; forms_after = all.1.0; policy_after = all.1.1.0; steps_after = all.1.1.1; }

@@ -2,14 +2,14 @@
 use native.Mathlib.Omega.{arith}
 use mathlib.Core.Path.{sym, ap, ◌∙◌}
 use Rattle.scope.specs.File.Reader.{read_request}
-use Rattle.reader.specs.Answers.{startRefused}
+use Rattle.reader.specs.Answers.{start_refused}
 use Rattle.reader.specs.Outcomes.{refused_all}
 use Rattle.reader.specs.Starts.{Started, started, start_lost, start_place, rest_place, all_told, told_of, near_body}
 use Rattle.reader.proofs.read_parts.Goals as goal
 
 pub returns-in_default : goal.returns-in_default
 returns-in_default c = let all = let t = c.args.text.now in
-    refused_all (read_request t) c.in_default.field-0 c.start_refused.result (c.start_refused.ensures ∙ ap startRefused c.in_default.is)
+    refused_all (read_request t) c.in_default.field-0 c.start_refused.result (c.start_refused.ensures ∙ ap start_refused c.in_default.is)
     (start_lost t c.in_default.field-0 (sym c.read_start-start.ensures ∙ c.in_default.is)) in
     record { value = all.0; forms_after = all.1.0; policy_after = all.1.1.0; steps_after = all.1.1.1; }
 

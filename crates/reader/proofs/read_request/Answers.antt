@@ -8,7 +8,7 @@ use Rattle.scope.specs.Call.Answer.{answer}
 use Rattle.scope.specs.File.Reader.{Outcome, read_request}
 use Rattle.scope.specs.Call.Tables.{table, form_entry, policy_entry, step_entry, has_room}
 use Rattle.scope.specs.Call.Calls.{reading}
-use Rattle.reader.specs.Answers.{refusalIs, reading_of}
+use Rattle.reader.specs.Answers.{refusal_is, reading_of}
 use Rattle.reader.specs.Outcomes.{refused_answer, refused_outcome, read_outcome, no_room, too_long, in_order_lem, Cleared, tables_zero, forms_stored, lines_stored, steps_stored, room_is}
 use native.Mathlib.Omega.{arith}
 use Rattle.reader.proofs.read_request.Goals as goal
@@ -35,9 +35,9 @@ returns-then-not-room c = let fits : Bool = has_room (length c.args.forms.now)
     
     let o : asked ≡ refused (answer 13 0) = no_room _ _ _ _
     (sym room ∙ c.if-not-room.true) in
-    let rest = tables_zero cleared asked (refusalIs 13 0) o in
+    let rest = tables_zero cleared asked (refusal_is 13 0) o in
     record {
-      value = refused_answer asked (refusalIs 13 0) o;
+      value = refused_answer asked (refusal_is 13 0) o;
       forms_after = rest.0;
       policy_after = rest.1.0;
       steps_after = rest.1.1;
@@ -65,9 +65,9 @@ returns-then-text-gt-MOST_BYTES c = let fits : Bool = has_room (length c.args.fo
     let enough : fits ≡ true = sym room ∙ c.if-not-room.false in
      let o : asked ≡ refused (answer 1 0) = too_long _ _ _ _ enough c.if-text-gt-MOST_BYTES.true in
     let rest = tables_zero cleared asked
-      (refusalIs 1 0) o in
+      (refusal_is 1 0) o in
     record {
-      value = refused_answer asked (refusalIs 1 0) o;
+      value = refused_answer asked (refusal_is 1 0) o;
       forms_after = rest.0;
       policy_after = rest.1.0;
       steps_after = rest.1.1;

@@ -6,7 +6,7 @@ use Rattle.common.specs.Answers.{answer_of}
 use Rattle.scope.specs.Limits.{most_formulas, principals_at, atoms_at, formulas_at}
 use Rattle.scope.specs.File.Refusals.{principals_refusal, atoms_refusal, formulas_refusal}
 use Rattle.reader.specs.Sections.{head_part}
-use Rattle.reader.specs.Answers.{refused_at, numberRefusal}
+use Rattle.reader.specs.Answers.{refused_at, number_refusal}
 use Rattle.scope.specs.File.Bytes.{bytes}
 use Rattle.scope.specs.File.Number.{number}
 use Rattle.lines.specs.Parts.{value_of}
@@ -22,7 +22,7 @@ returns-in_default c =
     let k = c.in_default.field-0 in
     let e = number_bad "principals=" principals_refusal principals_at t k (sym c.count_line-principals.ensures ∙ c.in_default.is) in
     let r : c.number_refused.result ≡ answer_of (refused_at principals_line k principals_at t) =
-    c.number_refused.ensures ∙ (λ j. answer_of (refused_at principals_line (numberRefusal (c.in_default.is j)) (c.principals_at.ensures j) t)) in
+    c.number_refused.ensures ∙ (λ j. answer_of (refused_at principals_line (number_refusal (c.in_default.is j)) (c.principals_at.ensures j) t)) in
     record {
       value = ap Part.Refused r ∙ head_refused (length t) (head_part t) (refused_at principals_line k principals_at t) (head_at_principals t (refused_at principals_line k principals_at t) e);
       few_formulas = omega arith;
@@ -37,7 +37,7 @@ returns-in_default-atoms c =
     let k = c.in_default-atoms.field-0 in
     let e = number_bad "atoms=" atoms_refusal atoms_at s1 k (sym c.count_line-atoms.ensures ∙ c.in_default-atoms.is) in
     let r : c.number_refused-in_default-atoms.result ≡ answer_of (refused_at atoms_line k atoms_at s1) =
-    c.number_refused-in_default-atoms.ensures ∙ (λ j. answer_of (refused_at atoms_line (numberRefusal (c.in_default-atoms.is j)) (c.atoms_at.ensures j) s1)) in
+    c.number_refused-in_default-atoms.ensures ∙ (λ j. answer_of (refused_at atoms_line (number_refusal (c.in_default-atoms.is j)) (c.atoms_at.ensures j) s1)) in
     record {
       value = ap Part.Refused r ∙ head_refused (length t) (head_part t) (refused_at atoms_line k atoms_at s1) (head_at_atoms t p s1 e1 (refused_at atoms_line k atoms_at s1) e);
       few_formulas = omega arith;
@@ -55,7 +55,7 @@ returns-in_default-formulas c =
     let k = c.in_default-formulas.field-0 in
     let e = number_bad "formulas=" formulas_refusal formulas_at s2 k (sym c.count_line-formulas.ensures ∙ c.in_default-formulas.is) in
     let r : c.number_refused-in_default-formulas.result ≡ answer_of (refused_at formulas_line k formulas_at s2) =
-    c.number_refused-in_default-formulas.ensures ∙ (λ j. answer_of (refused_at formulas_line (numberRefusal (c.in_default-formulas.is j)) (c.formulas_at.ensures j) s2)) in
+    c.number_refused-in_default-formulas.ensures ∙ (λ j. answer_of (refused_at formulas_line (number_refusal (c.in_default-formulas.is j)) (c.formulas_at.ensures j) s2)) in
     record {
       value = ap Part.Refused r ∙ head_refused (length t) (head_part t) (refused_at formulas_line k formulas_at s2) (head_at_formulas t p s1 e1 n s2 e2 (refused_at formulas_line k formulas_at s2) e);
       few_formulas = omega arith;

@@ -10,7 +10,7 @@ use Rattle.numbering.specs.Slots.{place_in, kept_at}
 use Rattle.reader.specs.declared.RowLine.TheVariants as RowLine
 use Rattle.scope.specs.File.Text.{form_line}
 use Rattle.common.specs.Answers.{answer_of}
-use Rattle.reader.specs.Answers.{refused_at, rowRefused}
+use Rattle.reader.specs.Answers.{refused_at, row_refused}
 use Rattle.reader.specs.NewRows.{slots_after, slots_kept}
 use Rattle.reader.specs.Turns.{turns_end, LineAsked}
 use Rattle.reader.specs.FormTurns.{forms_begin, form_asked, form_stops, form_behind, forms_more}
@@ -29,7 +29,7 @@ returns-in_default c = let line : LineAsked "form=" (form_asked c.args.principal
     c.loop-i.invariant c.loop-i-test.true
     line
     c.in_default.field-0 c.in_default.is c.row_refused.result
-    (c.row_refused.ensures ∙ (λ j. answer_of (refused_at form_line (rowRefused (c.in_default.is j)) (c.form_at-place.ensures j) c.loop-i.rest.now))) in
+    (c.row_refused.ensures ∙ (λ j. answer_of (refused_at form_line (row_refused (c.in_default.is j)) (c.form_at-place.ensures j) c.loop-i.rest.now))) in
     record { value = all.0; forms_after = all.1; }
 
 pub overflow_cast-at : goal.overflow_cast-at

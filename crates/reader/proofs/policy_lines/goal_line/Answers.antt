@@ -6,13 +6,13 @@ use Rattle.scope.specs.File.Line.{shaped_as}
 use Rattle.lines.specs.Parts.{value_of}
 use Rattle.classes.specs.Class.{goal_in}
 use Rattle.reader.specs.Sections.{below_refusal}
-use Rattle.reader.specs.Answers.{numberLineOf}
+use Rattle.reader.specs.Answers.{number_line_of}
 use Rattle.reader.specs.Lines.{class_before, class_met, class_unmet}
 use Rattle.reader.proofs.policy_lines.goal_line.Goals as goal
 
 pub returns-in_default : goal.returns-in_default
-returns-in_default c = let found : c.formula_line-got.result ≡ numberLineOf (shaped_as (below_refusal c.args.formulas) (number (value_of (bytes "goal=") c.args.text.now))) = c.formula_line-got.ensures ∙ ap
-    (λ t. numberLineOf (shaped_as (below_refusal c.args.formulas) (number t)))
+returns-in_default c = let found : c.formula_line-got.result ≡ number_line_of (shaped_as (below_refusal c.args.formulas) (number (value_of (bytes "goal=") c.args.text.now))) = c.formula_line-got.ensures ∙ ap
+    (λ t. number_line_of (shaped_as (below_refusal c.args.formulas) (number t)))
     c.value_of-value.ensures in
     
     c.in_default.is ∙ class_before goal_in c.args.classes.now
@@ -21,8 +21,8 @@ returns-in_default c = let found : c.formula_line-got.result ≡ numberLineOf (s
     (sym found ∙ c.in_default.is)
 
 pub returns-then-allowed : goal.returns-then-allowed
-returns-then-allowed c = let found : c.formula_line-got.result ≡ numberLineOf (shaped_as (below_refusal c.args.formulas) (number (value_of (bytes "goal=") c.args.text.now))) = c.formula_line-got.ensures ∙ ap
-    (λ t. numberLineOf (shaped_as (below_refusal c.args.formulas) (number t)))
+returns-then-allowed c = let found : c.formula_line-got.result ≡ number_line_of (shaped_as (below_refusal c.args.formulas) (number (value_of (bytes "goal=") c.args.text.now))) = c.formula_line-got.ensures ∙ ap
+    (λ t. number_line_of (shaped_as (below_refusal c.args.formulas) (number t)))
     c.value_of-value.ensures in
     
     let a = c.args in
@@ -32,8 +32,8 @@ returns-then-allowed c = let found : c.formula_line-got.result ≡ numberLineOf 
     (ap goal_in (sym c.byte_at.ensures) ∙ sym c.is_goal-allowed.ensures ∙ c.if-allowed.true)
 
 pub returns : goal.returns
-returns c = let found : c.formula_line-got.result ≡ numberLineOf (shaped_as (below_refusal c.args.formulas) (number (value_of (bytes "goal=") c.args.text.now))) = c.formula_line-got.ensures ∙ ap
-    (λ t. numberLineOf (shaped_as (below_refusal c.args.formulas) (number t)))
+returns c = let found : c.formula_line-got.result ≡ number_line_of (shaped_as (below_refusal c.args.formulas) (number (value_of (bytes "goal=") c.args.text.now))) = c.formula_line-got.ensures ∙ ap
+    (λ t. number_line_of (shaped_as (below_refusal c.args.formulas) (number t)))
     c.value_of-value.ensures in
     
     let a = c.args in

@@ -7,7 +7,7 @@ use Rattle.lines.specs.Values.{Behind}
 use Rattle.scope.specs.File.Text.{clause_line}
 use Rattle.common.specs.Answers.{answer_of}
 use Rattle.reader.specs.Sections.{classed_item}
-use Rattle.reader.specs.Answers.{refused_at, numberRefusal}
+use Rattle.reader.specs.Answers.{refused_at, number_refusal}
 use Rattle.reader.specs.Turns.{turns_begin, turns_end, LineAsked, clause_asked, clause_stops, clause_behind, clause_turn}
 use native.Mathlib.Omega.{arith}
 use Rattle.reader.proofs.policy_lines.read_clauses.Goals as goal
@@ -25,7 +25,7 @@ returns-in_default c = let line : LineAsked "clause=" (clause_asked c.args.class
     c.loop-i.invariant c.loop-i-test.true
     line
     c.in_default.field-0 c.in_default.is c.number_refused.result
-    (c.number_refused.ensures ∙ (λ j. answer_of (refused_at clause_line (numberRefusal (c.in_default.is j)) (c.clause_at-place.ensures j) c.loop-i.rest.now))) in
+    (c.number_refused.ensures ∙ (λ j. answer_of (refused_at clause_line (number_refusal (c.in_default.is j)) (c.clause_at-place.ensures j) c.loop-i.rest.now))) in
     record { value = all.0; policy_after = all.1 }
 
 pub overflow_cast-at : goal.overflow_cast-at

@@ -9,9 +9,9 @@ use Rattle.lines.specs.Parts.{value_of}
 use Rattle.scope.specs.File.Text.{steps_line}
 use Rattle.common.specs.Answers.{answer_of}
 use Rattle.reader.specs.Sections.{steps_part}
-use Rattle.reader.specs.Answers.{stepsCounts, refused_at, numberRefusal, sectionRefused}
+use Rattle.reader.specs.Answers.{steps_counts, refused_at, number_refusal, section_refused}
 use Rattle.reader.specs.Lines.{count_most}
-use Rattle.reader.specs.Got.{SectionKept, part_refused}
+use Rattle.reader.specs.Got.{SectionKept, part_refused_lem}
 use Rattle.reader.specs.Turns.{rest_short}
 use Rattle.reader.specs.Joins.{StepsCounted, rows_read, steps_stopped, rows_stopped, rows_inside, steps_joined}
 use Rattle.reader.specs.declared.Part.TheVariants as Part
@@ -22,13 +22,13 @@ pub returns-in_default : goal.returns-in_default
 returns-in_default c = let all = let t = c.args.text.now in
     let place = steps_at c.args.counts.formulas c.args.counts.policy in
     let k = c.in_default.field-0 in
-    part_refused (stepsCounts c.args.counts) (length t)
+    part_refused_lem (steps_counts c.args.counts) (length t)
     (steps_part c.args.counts.formulas
     c.args.counts.policy t) (answer_of (refused_at steps_line k place t))
     (steps_stopped c.args.counts.formulas
     c.args.counts.policy t k
     (sym c.count_line-line.ensures ∙ c.in_default.is))
-    (Part.Refused c.number_refused.result) (ap Part.Refused (c.number_refused.ensures ∙ (λ j. answer_of (refused_at steps_line (numberRefusal (c.in_default.is j)) (c.steps_at-place.ensures j) t)))) in
+    (Part.Refused c.number_refused.result) (ap Part.Refused (c.number_refused.ensures ∙ (λ j. answer_of (refused_at steps_line (number_refusal (c.in_default.is j)) (c.steps_at-place.ensures j) t)))) in
     record { value = all.0; steps_after = all.1 }
 
 pub read_steps-got-requires : goal.read_steps-got-requires
@@ -50,12 +50,12 @@ returns-in_default-got c = let counted : StepsCounted c.args.counts.formulas c.a
     } in
      let all = let t = c.args.text.now in
     let x = c.in_default-got.field-0 in
-    part_refused (stepsCounts c.args.counts) (length t)
+    part_refused_lem (steps_counts c.args.counts) (length t)
     (steps_part c.args.counts.formulas
     c.args.counts.policy t) x
     (rows_stopped counted x
     (sym c.read_steps-got.ensures.value ∙ c.in_default-got.is))
-    (Part.Refused c.section_refused.result) (ap Part.Refused (c.section_refused.ensures ∙ ap sectionRefused c.in_default-got.is)) in
+    (Part.Refused c.section_refused.result) (ap Part.Refused (c.section_refused.ensures ∙ ap section_refused c.in_default-got.is)) in
     record { value = all.0; steps_after = all.1 }
 
 pub overflow_sub-before : goal.overflow_sub-before
