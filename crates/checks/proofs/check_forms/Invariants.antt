@@ -1,5 +1,4 @@
 use Prim.Native.Nat.{◌-◌}
-use Rattle.scope.specs.Call.Answer.{answer}
 use Rattle.checks.specs.FormTurns.{FormsPassed}
 use Rattle.checks.proofs.check_forms.Given as goal
 

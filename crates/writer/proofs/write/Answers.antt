@@ -11,7 +11,6 @@ use Rattle.writer.specs.Puts.{puts_zeros}
 use Rattle.writer.specs.Writing.{ends_refused, ends_short, ends_written}
 use Rattle.writer.proofs.write.Goals as goal
 
--- `writer::write` meets its contract: the output is zero first, a refusal leaves it so, and a text that fits stands at its beginning.
 -- The text of m bytes ends at n, past the end of an output of len bytes or within it.
 too_short : {a len n m : ℕ} → a ≡ len → n ≡ 0 + m → a < n → len < m
 too_short e k h = omega arith
@@ -19,6 +18,7 @@ too_short e k h = omega arith
 long-enough : {a len n m : ℕ} → a ≡ len → n ≡ 0 + m → n ≤ a → (n ≡ m) × (m ≤ len)
 long-enough e k h = (omega arith, omega arith)
 
+-- `writer::write` meets its contract: the output is zero first, a refusal leaves it so, and a text that fits stands at its beginning.
 pub returns-in_default : goal.returns-in_default
 returns-in_default c =
     let a = c.args in

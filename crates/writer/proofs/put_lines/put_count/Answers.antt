@@ -3,7 +3,7 @@ use Rattle.writer.specs.Puts.{puts_then, puts_same}
 use Rattle.writer.specs.Lines.{number_line_lem}
 use Rattle.writer.proofs.put_lines.put_count.Goals as goal
 
--- `writer::lines::put_count` meets its contract: key, number and LF stand one behind the other.
+-- `writer::put_lines::put_count` meets its contract: key, number and LF stand one behind the other.
 pub returns : goal.returns
 returns c =
     let a = c.args in

@@ -4,7 +4,7 @@ use Rattle.writer.specs.Puts.{puts_then, puts_same, puts_none}
 use Rattle.writer.specs.Lines.{operands_text, two_operands}
 use Rattle.writer.proofs.put_lines.put_operands.Goals as goal
 
--- `writer::lines::put_operands` meets its contract: none, one or two operands, as the tests say.
+-- `writer::put_lines::put_operands` meets its contract: none, one or two operands, as the tests say.
 pub returns-then-count-eq0 : goal.returns-then-count-eq0
 unfolding operands_text
 returns-then-count-eq0 c = rw c.if-count-eq0.true (puts_same refl (omega arith) (puts_none c.args.out.now c.args.at))

@@ -6,7 +6,7 @@ use Rattle.writer.specs.Lines.{row_line}
 use Rattle.refusals.specs.Rows.{row}
 use Rattle.writer.proofs.put_lines.put_step.Goals as goal
 
--- `writer::lines::put_step` meets its contract: key, word, operands and LF stand one behind the other.
+-- `writer::put_lines::put_step` meets its contract: key, word, operands and LF stand one behind the other.
 pub returns : goal.returns
 returns c =
     let a = c.args in

@@ -1,5 +1,4 @@
 use native.Mathlib.Omega.{arith}
-use Prim.Native.Nat.{◌-◌}
 use Rattle.classes.specs.Rows.{number_at}
 use Rattle.writer.specs.Sections.{lines_none, lines_more, lines_all}
 use Rattle.writer.proofs.sections.put_clauses.Goals as goal

@@ -1,4 +1,3 @@
-use Prim.Native.Nat.{◌-◌}
 use Rattle.classes.specs.Rows.{form_row_lem}
 use Rattle.writer.specs.Sections.{lines_none, lines_more, lines_all}
 use Rattle.writer.proofs.sections.put_forms.Goals as goal

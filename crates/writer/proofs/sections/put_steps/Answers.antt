@@ -1,4 +1,3 @@
-use Prim.Native.Nat.{◌-◌}
 use Rattle.checks.specs.Sections.{step_row_lem}
 use Rattle.writer.specs.Sections.{lines_none, lines_more, lines_all}
 use Rattle.writer.proofs.sections.put_steps.Goals as goal
