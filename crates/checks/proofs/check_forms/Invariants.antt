@@ -1,7 +1,6 @@
 -- `checks::check_forms` meets its contract: in turn i the answers about the first i formulas are fine and the slots keep their rows, and
 -- answer i is that about row i.
 use Prim.Native.Nat.{◌-◌}
-use Rattle.scope.specs.Call.Answer.{answer}
 use Rattle.checks.specs.FormTurns.{FormsPassed}
 use Rattle.checks.proofs.check_forms.Given as goal
 
