@@ -8,7 +8,6 @@ use Rattle.std.proofs.Math.Seq.{drop-cons}
 use Rattle.scope.specs.File.Number.{number}
 use Rattle.scope.specs.File.Kinds.{Kind, kind_in, kind_stop, kinds_stop}
 use Rattle.scope.specs.Tools.Tests.{never}
-use Rattle.trip.specs.LineStops.{number_within}
 use Rattle.lines.specs.Parts.{tail_part}
 use Rattle.scope.specs.File.Stops.{number_stop, none_stop, byte_stop, word_stop, end_stop, stopped_at, digits_stop, items_stop, larger}
 use Rattle.lines.specs.Answers.{number_answer}

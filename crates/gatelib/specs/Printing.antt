@@ -15,7 +15,6 @@ use Rattle.common.specs.declared.Counts.{Counts}
 use Rattle.common.specs.declared.Answer.{Answer as Returned}
 use Rattle.checks.specs.Met.{lent_with}
 use Rattle.reader.specs.declared.Reading.{Reading}
-use Rattle.reader.specs.declared.Reading.TheVariants as Reading
 use Rattle.reader.specs.Answers.{counts_of, reading_of, logic_back}
 use Rattle.common.specs.Answers.{answer_of}
 use Rattle.scope.specs.Tools.Tests.{never}

@@ -15,19 +15,12 @@ use Rattle.common.specs.declared.Answer.{Answer as Returned}
 use Rattle.steps.specs.Steps.{step_from}
 use Rattle.reader.specs.Sections.{Told, Counted, Formulas, PolicyRead}
 use Rattle.reader.specs.declared.Reading.{Reading}
-use Rattle.reader.specs.declared.Reading.TheVariants as Reading
 use Rattle.reader.specs.declared.NumberLine.{NumberLine}
-use Rattle.reader.specs.declared.NumberLine.TheVariants as NumberLine
 use Rattle.reader.specs.declared.RowLine.{RowLine}
-use Rattle.reader.specs.declared.RowLine.TheVariants as RowLine
 use Rattle.reader.specs.declared.StepLine.{StepLine}
-use Rattle.reader.specs.declared.StepLine.TheVariants as StepLine
 use Rattle.reader.specs.declared.Section.{Section}
-use Rattle.reader.specs.declared.Section.TheVariants as Section
 use Rattle.reader.specs.declared.Start.{Start}
-use Rattle.reader.specs.declared.Start.TheVariants as Start
 use Rattle.reader.specs.declared.Part.{Part}
-use Rattle.reader.specs.declared.Part.TheVariants as Part
 
 abbrev pub refusal_is : ℕ → ℕ → Returned
 refusal_is k place = answer_of (answer k place)

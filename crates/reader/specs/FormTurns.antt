@@ -25,7 +25,6 @@ use Rattle.reader.specs.Stored.{form_more, unpack_table}
 use Rattle.reader.specs.Got.{part_from}
 use Rattle.reader.specs.Turns.{Turns, turns_begin, turn_stops, turn_more, LineAsked}
 use Rattle.reader.specs.declared.RowLine.{RowLine}
-use Rattle.reader.specs.declared.RowLine.TheVariants as RowLine
 use Rattle.reader.specs.declared.Section.TheVariants as Section
 
 abbrev pub form_asked : ℕ → ℕ → ℕ → List ℕ → List ℕ → List ℕ → RowLine

@@ -14,7 +14,6 @@ use Rattle.reader.specs.Answers.{section_of, part_of}
 use Rattle.reader.specs.Many.{Ends, tail_drop}
 use Rattle.reader.specs.declared.Section.TheVariants as Section
 use Rattle.reader.specs.declared.Part.{Part}
-use Rattle.reader.specs.declared.Part.TheVariants as Part
 
 -- The part of a text that starts at a place, as the code has it.
 abbrev pub part_from : ℕ → List ℕ → List ℕ

@@ -30,7 +30,6 @@ use Rattle.reader.specs.Turns.{rest_short}
 use Rattle.reader.specs.Whole.{head_ends}
 use Rattle.reader.specs.Got.{part_from, part_is, SectionGot, section_got, section_lost, SectionKept, PartGot, part_got, part_lost, same_things, part_read}
 use Rattle.reader.specs.declared.NumberLine.{NumberLine}
-use Rattle.reader.specs.declared.NumberLine.TheVariants as NumberLine
 use Rattle.reader.specs.declared.Section.TheVariants as Section
 use Rattle.reader.specs.declared.Part.TheVariants as Part
 

@@ -6,7 +6,6 @@ use Rattle.std.proofs.Math.Path.{refl, ap, sym}
 use Rattle.std.proofs.Math.Bool.{true, false}
 use Rattle.std.proofs.Math.Option.{Option, none, some}
 use Rattle.std.proofs.lemmas.Bool.{lt-leb}
-use Rattle.scope.specs.Call.Answer.{column_for}
 use Rattle.scope.specs.Tools.Tests.{never}
 use Rattle.scope.specs.Logic.Form.{both}
 use Rattle.scope.specs.Logic.Facts.{Logic}
@@ -34,7 +33,6 @@ use Rattle.refusals.specs.Rows.{row, step_small, class_refusal}
 use Rattle.reader.specs.Sections.{below_refusal}
 use Rattle.reader.specs.Answers.{refused_at, number_line_of, logic_line_of, row_line_of, step_line_of}
 use Rattle.reader.specs.declared.NumberLine.{NumberLine}
-use Rattle.reader.specs.declared.NumberLine.TheVariants as NumberLine
 use Rattle.reader.specs.declared.RowLine.TheVariants as RowLine
 use Rattle.reader.specs.declared.StepLine.TheVariants as StepLine
 

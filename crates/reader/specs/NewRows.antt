@@ -6,7 +6,7 @@ use Rattle.std.proofs.Common.{sym, ◌∙◌}
 use Rattle.std.proofs.Math.Option.{Option, none, some}
 use Rattle.scope.specs.Tools.Tests.{never}
 use Rattle.scope.specs.File.Request.{Row}
-use Rattle.scope.specs.File.Line.{Value, val, out, or_refused, shaped_as}
+use Rattle.scope.specs.File.Line.{val, out, or_refused, shaped_as}
 use Rattle.scope.specs.File.Kinds.{form_kinds}
 use Rattle.scope.specs.File.Refusals.{row_refusal, first_of}
 use Rattle.refusals.specs.Rows.{row}
@@ -19,7 +19,6 @@ use Rattle.numbering.specs.declared.Earlier.TheVariants.{At, Nothing}
 use Rattle.reader.specs.Answers.{row_line_of}
 use Rattle.reader.specs.Lines.{out_row, val_row, row_out, row_val}
 use Rattle.reader.specs.declared.RowLine.{RowLine}
-use Rattle.reader.specs.declared.RowLine.TheVariants as RowLine
 
 abbrev pub asked_row : ℕ → ℕ → ℕ → List ℕ → List ℕ → Row → ℕ
 asked_row principals atoms i forms slots r =

@@ -2,19 +2,19 @@
 use Rattle.std.specs.Prelude.{ℕ, suc, ◌+◌, ◌-◌, ◌*◌, ◌≤◌, ◌<◌, ◌≡◌, List, [], ◌∷◌, ◌++◌, length, set, replicate}
 use Prim.Native.String.{String}
 use Rattle.std.proofs.Math.Nat.{sub-zero}
-use Rattle.std.proofs.Common.{arith, sym, subst, ◌∙◌, length-append, length-set}
+use Rattle.std.proofs.Common.{arith, sym, ◌∙◌, length-append, length-set}
 use Rattle.std.proofs.Math.Path.{refl, ap}
 use Rattle.scope.specs.Call.Answer.{Answer}
 use Rattle.scope.specs.File.Bytes.{bytes}
 use Rattle.scope.specs.File.Number.{number}
 use Rattle.scope.specs.File.Request.{Row}
-use Rattle.scope.specs.File.Line.{Value, val, out, Read, ok, bad, Reader, shaped_as, line, and_then, ◌>>=◌, many}
-use Rattle.scope.specs.Call.Tables.{Entry, table, form_entry, policy_entry, step_entry}
-use Rattle.scope.specs.File.Kinds.{form_kinds, step_kinds, row_in}
-use Rattle.scope.specs.Limits.{principals_at, atoms_at, formulas_at, form_at, clause_at, step_at}
-use Rattle.scope.specs.File.Refusals.{row_refusal, form_refusal, step_refusal, principals_refusal, atoms_refusal, formulas_refusal}
+use Rattle.scope.specs.File.Line.{Read, ok, bad, Reader, shaped_as, line, and_then, ◌>>=◌, many}
+use Rattle.scope.specs.Call.Tables.{Entry, table, policy_entry, step_entry}
+use Rattle.scope.specs.File.Kinds.{step_kinds, row_in}
+use Rattle.scope.specs.Limits.{principals_at, atoms_at, formulas_at, clause_at, step_at}
+use Rattle.scope.specs.File.Refusals.{step_refusal, principals_refusal, atoms_refusal, formulas_refusal}
 use Rattle.scope.specs.File.Text.{principals_line, atoms_line, formulas_line, clause_line, step_line}
-use Rattle.scope.specs.File.Reader.{form_item, step_item}
+use Rattle.scope.specs.File.Reader.{step_item}
 use Rattle.common.specs.Answers.{answer_of}
 use Rattle.classes.specs.Class.{policy_in}
 use Rattle.lines.specs.Parts.{value_of, rest_of}
@@ -25,17 +25,13 @@ use Rattle.steps.specs.declared.Pair.{Pair}
 use Rattle.steps.specs.Steps.{pair_of}
 use Rattle.refusals.specs.Rows.{row, class_refusal}
 use Rattle.reader.specs.Sections.{Counted, head_part, classed_item}
-use Rattle.reader.specs.Answers.{refused_at, number_line_of, row_line_of, step_line_of, section_of, head_counts, part_of}
-use Rattle.reader.specs.Lines.{no_form, no_step, out_row, val_row, out_step, StepRow, step_row_lem, row_ok, row_bad, row_behind, value_ok, value_bad, value_behind}
+use Rattle.reader.specs.Answers.{refused_at, number_line_of, step_line_of, section_of, head_counts, part_of}
+use Rattle.reader.specs.Lines.{no_step, out_step, StepRow, step_row_lem, row_ok, row_bad, row_behind, value_ok, value_bad, value_behind}
 use Rattle.reader.specs.Many.{onto, many_more, many_stop, many_end, many_start, tail_length, rest_tail}
-use Rattle.reader.specs.Stored.{table_none, form_more, line_more, step_more}
+use Rattle.reader.specs.Stored.{table_none, line_more, step_more}
 use Rattle.reader.specs.Got.{part_from, never_both, same_things}
 use Rattle.reader.specs.declared.NumberLine.{NumberLine}
-use Rattle.reader.specs.declared.NumberLine.TheVariants as NumberLine
-use Rattle.reader.specs.declared.RowLine.{RowLine}
-use Rattle.reader.specs.declared.RowLine.TheVariants as RowLine
 use Rattle.reader.specs.declared.StepLine.{StepLine}
-use Rattle.reader.specs.declared.StepLine.TheVariants as StepLine
 use Rattle.reader.specs.declared.Section.TheVariants as Section
 use Rattle.reader.specs.declared.Part.TheVariants as Part
 

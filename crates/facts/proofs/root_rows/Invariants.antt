@@ -1,5 +1,5 @@
 -- `facts::root_rows` meets its contract: after c turns the first c principals have themselves in their rows.
-use Rattle.facts.specs.Rows.{principals_max, root_rows, one_bit}
+use Rattle.facts.specs.Rows.{principals_max, one_bit}
 use Rattle.facts.specs.Fill.{fill}
 use mathlib.Core.Path.{◌≡◌}
 use Prim.Native.Nat.{◌≤◌, ◌-◌}

@@ -1,5 +1,5 @@
 -- `facts::sf_rows` meets its contract: after c turns the first c rows are read.
-use Rattle.facts.specs.Rows.{principals_max, sf_rows}
+use Rattle.facts.specs.Rows.{principals_max}
 use Rattle.facts.specs.Fill.{fill}
 use lib.ListN.{get_or}
 use mathlib.Core.Path.{◌≡◌}

@@ -2,7 +2,7 @@
 -- is the rows that are left.
 use Prim.Native.Nat.{◌-◌, ◌≤◌}
 use Rattle.scope.specs.Limits.{most_formulas}
-use Rattle.numbering.specs.Repeats.{first_repeat, Passed}
+use Rattle.numbering.specs.Repeats.{Passed}
 use Rattle.numbering.proofs.first_repeat.Given as goal
 
 abbrev pub invariant-loop-i : goal.invariant-loop-i

@@ -21,29 +21,29 @@ returns-in_default c = let all = refused_all (body_request c.args.text.now)
     (formulas_end c.args.text.now
     c.in_default.field-0
     (sym c.read_formulas-first.ensures.value ∙ c.in_default.is)) in
-    record { value = all.0; forms_after = all.1.0; policy_after = all.1.1.0; steps_after = all.1.1.1; }
+    record { value = all.0; forms_after = all.1.0; policy_after = all.1.1.0; steps_after = all.1.1.1 }
 
 pub slice_bounds-second-count : goal.slice_bounds-second-count
 slice_bounds-second-count c = let formulas : FormulasKept c.args.text.now = record {
-      counts = c.in-Read.formulas;
-      at = c.in-Read.at;
-      is = sym c.read_formulas-first.ensures.value ∙ c.in-Read.is;
-      numbers = c.read_formulas-first.new.forms;
-      len = length c.args.forms.now;
-      stored = c.read_formulas-first.ensures.forms_after;
-    } in
-     formulas_place formulas
+  counts = c.in-Read.formulas;
+  at = c.in-Read.at;
+  is = sym c.read_formulas-first.ensures.value ∙ c.in-Read.is;
+  numbers = c.read_formulas-first.new.forms;
+  len = length c.args.forms.now;
+  stored = c.read_formulas-first.ensures.forms_after;
+} in
+    formulas_place formulas
 
 pub slice_bounds-second-start : goal.slice_bounds-second-start
 slice_bounds-second-start c = let formulas : FormulasKept c.args.text.now = record {
-      counts = c.in-Read.formulas;
-      at = c.in-Read.at;
-      is = sym c.read_formulas-first.ensures.value ∙ c.in-Read.is;
-      numbers = c.read_formulas-first.new.forms;
-      len = length c.args.forms.now;
-      stored = c.read_formulas-first.ensures.forms_after;
-    } in
-     formulas_place formulas
+  counts = c.in-Read.formulas;
+  at = c.in-Read.at;
+  is = sym c.read_formulas-first.ensures.value ∙ c.in-Read.is;
+  numbers = c.read_formulas-first.new.forms;
+  len = length c.args.forms.now;
+  stored = c.read_formulas-first.ensures.forms_after;
+} in
+    formulas_place formulas
 
 pub read_policy-middle-requires : goal.read_policy-middle-requires
 read_policy-middle-requires c = (
@@ -58,31 +58,31 @@ part_refused-requires-in_default-middle c = tt
 
 pub returns-in_default-middle : goal.returns-in_default-middle
 returns-in_default-middle c = let formulas : FormulasKept c.args.text.now = record {
-      counts = c.in-Read.formulas;
-      at = c.in-Read.at;
-      is = sym c.read_formulas-first.ensures.value ∙ c.in-Read.is;
-      numbers = c.read_formulas-first.new.forms;
-      len = length c.args.forms.now;
-      stored = c.read_formulas-first.ensures.forms_after;
-    } in
-     let all = refused_all (body_request
+  counts = c.in-Read.formulas;
+  at = c.in-Read.at;
+  is = sym c.read_formulas-first.ensures.value ∙ c.in-Read.is;
+  numbers = c.read_formulas-first.new.forms;
+  len = length c.args.forms.now;
+  stored = c.read_formulas-first.ensures.forms_after;
+} in
+    let all = refused_all (body_request
     c.args.text.now)
     c.in_default-middle.field-0 c.part_refused-in_default-middle.result
     (c.part_refused-in_default-middle.ensures ∙ ap part_refused c.in_default-middle.is)
     (policy_end formulas
     c.in_default-middle.field-0
     (sym c.read_policy-middle.ensures.value ∙ c.in_default-middle.is)) in
-    record { value = all.0; forms_after = all.1.0; policy_after = all.1.1.0; steps_after = all.1.1.1; }
+    record { value = all.0; forms_after = all.1.0; policy_after = all.1.1.0; steps_after = all.1.1.1 }
 
 pub slice_bounds-third-count : goal.slice_bounds-third-count
 slice_bounds-third-count c = let formulas : FormulasKept c.args.text.now = record {
-      counts = c.in-Read.formulas;
-      at = c.in-Read.at;
-      is = sym c.read_formulas-first.ensures.value ∙ c.in-Read.is;
-      numbers = c.read_formulas-first.new.forms;
-      len = length c.args.forms.now;
-      stored = c.read_formulas-first.ensures.forms_after;
-    } in
+  counts = c.in-Read.formulas;
+  at = c.in-Read.at;
+  is = sym c.read_formulas-first.ensures.value ∙ c.in-Read.is;
+  numbers = c.read_formulas-first.new.forms;
+  len = length c.args.forms.now;
+  stored = c.read_formulas-first.ensures.forms_after;
+} in
     let policy : PolicyKept formulas = record {
       counts = c.in-Read-middle.clauses;
       at = c.in-Read-middle.more;
@@ -91,17 +91,17 @@ slice_bounds-third-count c = let formulas : FormulasKept c.args.text.now = recor
       len = length c.args.policy.now;
       stored = c.read_policy-middle.ensures.policy_after;
     } in
-     policy_place formulas policy
+    policy_place formulas policy
 
 pub slice_bounds-third-start : goal.slice_bounds-third-start
 slice_bounds-third-start c = let formulas : FormulasKept c.args.text.now = record {
-      counts = c.in-Read.formulas;
-      at = c.in-Read.at;
-      is = sym c.read_formulas-first.ensures.value ∙ c.in-Read.is;
-      numbers = c.read_formulas-first.new.forms;
-      len = length c.args.forms.now;
-      stored = c.read_formulas-first.ensures.forms_after;
-    } in
+  counts = c.in-Read.formulas;
+  at = c.in-Read.at;
+  is = sym c.read_formulas-first.ensures.value ∙ c.in-Read.is;
+  numbers = c.read_formulas-first.new.forms;
+  len = length c.args.forms.now;
+  stored = c.read_formulas-first.ensures.forms_after;
+} in
     let policy : PolicyKept formulas = record {
       counts = c.in-Read-middle.clauses;
       at = c.in-Read-middle.more;
@@ -110,7 +110,6 @@ slice_bounds-third-start c = let formulas : FormulasKept c.args.text.now = recor
       len = length c.args.policy.now;
       stored = c.read_policy-middle.ensures.policy_after;
     } in
-    
     policy_place formulas policy
 
 pub read_proof-last-requires : goal.read_proof-last-requires
@@ -122,13 +121,13 @@ part_refused-requires-in_default-last c = tt
 
 pub returns-in_default-last : goal.returns-in_default-last
 returns-in_default-last c = let formulas : FormulasKept c.args.text.now = record {
-      counts = c.in-Read.formulas;
-      at = c.in-Read.at;
-      is = sym c.read_formulas-first.ensures.value ∙ c.in-Read.is;
-      numbers = c.read_formulas-first.new.forms;
-      len = length c.args.forms.now;
-      stored = c.read_formulas-first.ensures.forms_after;
-    } in
+  counts = c.in-Read.formulas;
+  at = c.in-Read.at;
+  is = sym c.read_formulas-first.ensures.value ∙ c.in-Read.is;
+  numbers = c.read_formulas-first.new.forms;
+  len = length c.args.forms.now;
+  stored = c.read_formulas-first.ensures.forms_after;
+} in
     let policy : PolicyKept formulas = record {
       counts = c.in-Read-middle.clauses;
       at = c.in-Read-middle.more;
@@ -137,24 +136,24 @@ returns-in_default-last c = let formulas : FormulasKept c.args.text.now = record
       len = length c.args.policy.now;
       stored = c.read_policy-middle.ensures.policy_after;
     } in
-     let all = refused_all (body_request
+    let all = refused_all (body_request
     c.args.text.now)
     c.in_default-last.field-0 c.part_refused-in_default-last.result
     (c.part_refused-in_default-last.ensures ∙ ap part_refused c.in_default-last.is)
     (steps_end formulas
     policy c.in_default-last.field-0
     (sym c.read_proof-last.ensures.value ∙ c.in_default-last.is)) in
-    record { value = all.0; forms_after = all.1.0; policy_after = all.1.1.0; steps_after = all.1.1.1; }
+    record { value = all.0; forms_after = all.1.0; policy_after = all.1.1.0; steps_after = all.1.1.1 }
 
 pub returns-then-end-third : goal.returns-then-end-third
 returns-then-end-third c = let formulas : FormulasKept c.args.text.now = record {
-      counts = c.in-Read.formulas;
-      at = c.in-Read.at;
-      is = sym c.read_formulas-first.ensures.value ∙ c.in-Read.is;
-      numbers = c.read_formulas-first.new.forms;
-      len = length c.args.forms.now;
-      stored = c.read_formulas-first.ensures.forms_after;
-    } in
+  counts = c.in-Read.formulas;
+  at = c.in-Read.at;
+  is = sym c.read_formulas-first.ensures.value ∙ c.in-Read.is;
+  numbers = c.read_formulas-first.new.forms;
+  len = length c.args.forms.now;
+  stored = c.read_formulas-first.ensures.forms_after;
+} in
     let policy : PolicyKept formulas = record {
       counts = c.in-Read-middle.clauses;
       at = c.in-Read-middle.more;
@@ -171,22 +170,22 @@ returns-then-end-third c = let formulas : FormulasKept c.args.text.now = record 
       len = length c.args.steps.now;
       stored = c.read_proof-last.ensures.steps_after;
     } in
-     let all = let place = end_at c.in-Read-last.counts.formulas c.in-Read-last.counts.policy c.in-Read-last.counts.steps in
+    let all = let place = end_at c.in-Read-last.counts.formulas c.in-Read-last.counts.policy c.in-Read-last.counts.steps in
     refused_all (body_request
     c.args.text.now) (refusal_is 6 place) (refusal_is 6 c.end_at-place.result) (ap (refusal_is 6) c.end_at-place.ensures)
     (bytes_after formulas
     policy steps c.if-end-third.true) in
-    record { value = all.0; forms_after = all.1.0; policy_after = all.1.1.0; steps_after = all.1.1.1; }
+    record { value = all.0; forms_after = all.1.0; policy_after = all.1.1.0; steps_after = all.1.1.1 }
 
 pub returns : goal.returns
 returns c = let formulas : FormulasKept c.args.text.now = record {
-      counts = c.in-Read.formulas;
-      at = c.in-Read.at;
-      is = sym c.read_formulas-first.ensures.value ∙ c.in-Read.is;
-      numbers = c.read_formulas-first.new.forms;
-      len = length c.args.forms.now;
-      stored = c.read_formulas-first.ensures.forms_after;
-    } in
+  counts = c.in-Read.formulas;
+  at = c.in-Read.at;
+  is = sym c.read_formulas-first.ensures.value ∙ c.in-Read.is;
+  numbers = c.read_formulas-first.new.forms;
+  len = length c.args.forms.now;
+  stored = c.read_formulas-first.ensures.forms_after;
+} in
     let policy : PolicyKept formulas = record {
       counts = c.in-Read-middle.clauses;
       at = c.in-Read-middle.more;
@@ -203,6 +202,6 @@ returns c = let formulas : FormulasKept c.args.text.now = record {
       len = length c.args.steps.now;
       stored = c.read_proof-last.ensures.steps_after;
     } in
-     let all = all_read formulas
+    let all = all_read formulas
     policy steps c.if-end-third.false in
-    record { value = all.0; forms_after = all.1.0; policy_after = all.1.1.0; steps_after = all.1.1.1; }
+    record { value = all.0; forms_after = all.1.0; policy_after = all.1.1.0; steps_after = all.1.1.1 }

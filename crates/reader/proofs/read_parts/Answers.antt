@@ -11,7 +11,7 @@ pub returns-in_default : goal.returns-in_default
 returns-in_default c = let all = let t = c.args.text.now in
     refused_all (read_request t) c.in_default.field-0 c.start_refused.result (c.start_refused.ensures ∙ ap start_refused c.in_default.is)
     (start_lost t c.in_default.field-0 (sym c.read_start-start.ensures ∙ c.in_default.is)) in
-    record { value = all.0; forms_after = all.1.0; policy_after = all.1.1.0; steps_after = all.1.1.1; }
+    record { value = all.0; forms_after = all.1.0; policy_after = all.1.1.0; steps_after = all.1.1.1 }
 
 pub read_body-body-requires : goal.read_body-body-requires
 read_body-body-requires c =
@@ -20,12 +20,10 @@ read_body-body-requires c =
 
 pub told_with-requires : goal.told_with-requires
 told_with-requires c = let got : Started c.args.text.now c.in-Read.version c.in-Read.logic c.in-Read.at = started _ _ _ _ (sym c.read_start-start.ensures ∙ c.in-Read.is) in
-    
     rw c.read_body-body.ensures.value (near_body _ (omega (arith, rest_place got, c.requires.0)))
 
 pub returns : goal.returns
 returns c = let got : Started c.args.text.now c.in-Read.version c.in-Read.logic c.in-Read.at = started _ _ _ _ (sym c.read_start-start.ensures ∙ c.in-Read.is) in
-    
     let g = got in
     record {
       value = c.told_with.ensures ∙ all_told g c.read_body-body.result c.read_body-body.ensures.value;

@@ -2,7 +2,6 @@
 use mathlib.Core.Path.{◌≡◌, ap, sym, ◌∙◌}
 use mathlib.Core.Bool.{Bool, true}
 use lib.ListN.{length, replicate}
-use borrow.Author.Tests.{not-false}
 use Rattle.scope.specs.Call.Result.{refused}
 use Rattle.scope.specs.Call.Answer.{answer}
 use Rattle.scope.specs.File.Reader.{Outcome, read_request}
@@ -32,7 +31,6 @@ returns-then-not-room c = let fits : Bool = has_room (length c.args.forms.now)
     let room : c.has_room-room.result ≡ fits = c.has_room-room.ensures ∙
     (λ i. has_room (c.zero_table.auto.numbers i)
     (c.zero_table-2.auto.numbers i) (c.zero_table-3.auto.numbers i)) in
-    
     let o : asked ≡ refused (answer 13 0) = no_room _ _ _ _
     (sym room ∙ c.if-not-room.true) in
     let rest = tables_zero cleared asked (refusal_is 13 0) o in
@@ -63,9 +61,9 @@ returns-then-text-gt-MOST_BYTES c = let fits : Bool = has_room (length c.args.fo
     (λ i. has_room (c.zero_table.auto.numbers i)
     (c.zero_table-2.auto.numbers i) (c.zero_table-3.auto.numbers i)) in
     let enough : fits ≡ true = sym room ∙ c.if-not-room.false in
-     let o : asked ≡ refused (answer 1 0) = too_long _ _ _ _ enough c.if-text-gt-MOST_BYTES.true in
+    let o : asked ≡ refused (answer 1 0) = too_long _ _ _ _ enough c.if-text-gt-MOST_BYTES.true in
     let rest = tables_zero cleared asked
-      (refusal_is 1 0) o in
+    (refusal_is 1 0) o in
     record {
       value = refused_answer asked (refusal_is 1 0) o;
       forms_after = rest.0;
@@ -81,20 +79,20 @@ read_parts-got-requires c = let fits : Bool = has_room (length c.args.forms.now)
     (λ i. has_room (c.zero_table.auto.numbers i)
     (c.zero_table-2.auto.numbers i) (c.zero_table-3.auto.numbers i)) in
     let enough : fits ≡ true = sym room ∙ c.if-not-room.false in
-     let r = room_is _ _ _ enough in (
-  c.if-text-gt-MOST_BYTES.false,
-  omega (arith, c.zero_table.auto.numbers, r.form_room),
-  c.zero_table.ensures ∙
-      ap (λ n. replicate n 0)
-      (sym c.zero_table.auto.numbers),
-  omega (arith, c.zero_table-2.auto.numbers, r.line_room),
-  c.zero_table-2.ensures ∙ ap
-      (λ n. replicate n 0) (sym
-      c.zero_table-2.auto.numbers),
-  omega (arith, c.zero_table-3.auto.numbers, r.step_room),
-  c.zero_table-3.ensures ∙ ap (λ n. replicate n 0)
-      (sym c.zero_table-3.auto.numbers),
-)
+    let r = room_is _ _ _ enough in (
+      c.if-text-gt-MOST_BYTES.false,
+      omega (arith, c.zero_table.auto.numbers, r.form_room),
+      c.zero_table.ensures ∙
+          ap (λ n. replicate n 0)
+          (sym c.zero_table.auto.numbers),
+      omega (arith, c.zero_table-2.auto.numbers, r.line_room),
+      c.zero_table-2.ensures ∙ ap
+          (λ n. replicate n 0) (sym
+          c.zero_table-2.auto.numbers),
+      omega (arith, c.zero_table-3.auto.numbers, r.step_room),
+      c.zero_table-3.ensures ∙ ap (λ n. replicate n 0)
+          (sym c.zero_table-3.auto.numbers),
+    )
 
 pub zero_table-requires-in_default : goal.zero_table-requires-in_default
 zero_table-requires-in_default c = tt
@@ -118,27 +116,26 @@ returns-in_default c = let fits : Bool = has_room (length c.args.forms.now)
     (c.zero_table-2.auto.numbers i) (c.zero_table-3.auto.numbers i)) in
     let enough : fits ≡ true = sym room ∙ c.if-not-room.false in
     let outcome : asked ≡ read_request c.args.text.now = in_order_lem _ _ _ _ enough c.if-text-gt-MOST_BYTES.false in
-    
     let t = c.args.text.now in
     let x = c.in_default.field-0 in
     let rest = tables_zero record {
-        form_table = c.zero_table-in_default.new.numbers;
-        policy_table = c.zero_table-in_default-2.new.numbers;
-        step_table = c.zero_table-in_default-3.new.numbers;
-        forms_clear = c.zero_table-in_default.ensures ∙ ap
-            (λ n. replicate n 0) (c.read_parts-got.auto.forms ∙
-            c.zero_table.auto.numbers);
-        lines_clear = c.zero_table-in_default-2.ensures ∙ ap (λ n. replicate n 0)
-            (c.read_parts-got.auto.policy ∙
-            c.zero_table-2.auto.numbers);
-        steps_clear = c.zero_table-in_default-3.ensures ∙ ap (λ n. replicate n 0)
-            (c.read_parts-got.auto.steps ∙
-            c.zero_table-3.auto.numbers);
-      } asked x
-          (outcome ∙
-          refused_outcome (read_request t) x
-          (sym c.read_parts-got.ensures.value ∙
-          c.in_default.is)) in
+      form_table = c.zero_table-in_default.new.numbers;
+      policy_table = c.zero_table-in_default-2.new.numbers;
+      step_table = c.zero_table-in_default-3.new.numbers;
+      forms_clear = c.zero_table-in_default.ensures ∙ ap
+          (λ n. replicate n 0) (c.read_parts-got.auto.forms ∙
+          c.zero_table.auto.numbers);
+      lines_clear = c.zero_table-in_default-2.ensures ∙ ap (λ n. replicate n 0)
+          (c.read_parts-got.auto.policy ∙
+          c.zero_table-2.auto.numbers);
+      steps_clear = c.zero_table-in_default-3.ensures ∙ ap (λ n. replicate n 0)
+          (c.read_parts-got.auto.steps ∙
+          c.zero_table-3.auto.numbers);
+    } asked x
+    (outcome ∙
+    refused_outcome (read_request t) x
+    (sym c.read_parts-got.ensures.value ∙
+    c.in_default.is)) in
     record {
       value = c.read_parts-got.ensures.value ∙
           ap reading_of (sym outcome);
@@ -160,7 +157,6 @@ returns c = let fits : Bool = has_room (length c.args.forms.now)
     (c.zero_table-2.auto.numbers i) (c.zero_table-3.auto.numbers i)) in
     let enough : fits ≡ true = sym room ∙ c.if-not-room.false in
     let outcome : asked ≡ read_request c.args.text.now = in_order_lem _ _ _ _ enough c.if-text-gt-MOST_BYTES.false in
-    
     let r = read_outcome (read_request
     c.args.text.now)
     c.in-Read.field-0
@@ -171,15 +167,15 @@ returns c = let fits : Bool = has_room (length c.args.forms.now)
       value = c.read_parts-got.ensures.value ∙ ap reading_of
           (sym outcome);
       forms_after = c.read_parts-got.ensures.forms_after q r.is ∙ ap
-            (λ n. table form_entry n q.forms)
-            c.zero_table.auto.numbers ∙
-            forms_stored _ asked q o;
+          (λ n. table form_entry n q.forms)
+          c.zero_table.auto.numbers ∙
+          forms_stored _ asked q o;
       policy_after = c.read_parts-got.ensures.policy_after q r.is ∙ ap
-              (λ n. table policy_entry n q.policy)
-              c.zero_table-2.auto.numbers ∙
-              lines_stored _ asked q o;
+          (λ n. table policy_entry n q.policy)
+          c.zero_table-2.auto.numbers ∙
+          lines_stored _ asked q o;
       steps_after = c.read_parts-got.ensures.steps_after q r.is ∙ ap
-              (λ n. table step_entry n q.steps)
-              c.zero_table-3.auto.numbers ∙
-              steps_stored _ asked q o;
+          (λ n. table step_entry n q.steps)
+          c.zero_table-3.auto.numbers ∙
+          steps_stored _ asked q o;
     }

@@ -2,7 +2,6 @@
 -- the formulas that are left.
 use Prim.Native.Nat.{◌-◌}
 use lib.ListN.{length}
-use Rattle.reader.specs.declared.RowLine.TheVariants as RowLine
 use Rattle.reader.specs.FormTurns.{FormTurns}
 use Rattle.reader.proofs.form_lines.read_forms.Given as goal
 

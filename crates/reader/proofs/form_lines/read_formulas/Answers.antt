@@ -27,32 +27,30 @@ returns-in_default c =
 
 pub slice_bounds-rest-count : goal.slice_bounds-rest-count
 slice_bounds-rest-count c = let counts : HeadKept c.args.text.now = record {
-      counts = c.in-Read.counts;
-      at = c.in-Read.at;
-      is = sym c.read_head-head.ensures.value ∙ c.in-Read.is;
-    } in
-     head_place counts
+  counts = c.in-Read.counts;
+  at = c.in-Read.at;
+  is = sym c.read_head-head.ensures.value ∙ c.in-Read.is;
+} in
+    head_place counts
 
 pub slice_bounds-rest-start : goal.slice_bounds-rest-start
 slice_bounds-rest-start c = let counts : HeadKept c.args.text.now = record {
-      counts = c.in-Read.counts;
-      at = c.in-Read.at;
-      is = sym c.read_head-head.ensures.value ∙ c.in-Read.is;
-    } in
-     head_place counts
+  counts = c.in-Read.counts;
+  at = c.in-Read.at;
+  is = sym c.read_head-head.ensures.value ∙ c.in-Read.is;
+} in
+    head_place counts
 
 pub read_forms-got-requires : goal.read_forms-got-requires
 read_forms-got-requires c = let few : c.in-Read.counts.formulas ≤ most_formulas = subst (λ h. formula_count h ≤ most_formulas) c.in-Read.is c.read_head-head.ensures.few_formulas in
-    
     (few, c.requires.0, c.requires.1)
 
 pub returns-in_default-got : goal.returns-in_default-got
 returns-in_default-got c = let counts : HeadKept c.args.text.now = record {
-      counts = c.in-Read.counts;
-      at = c.in-Read.at;
-      is = sym c.read_head-head.ensures.value ∙ c.in-Read.is;
-    } in
-    
+  counts = c.in-Read.counts;
+  at = c.in-Read.at;
+  is = sym c.read_head-head.ensures.value ∙ c.in-Read.is;
+} in
     let t = c.args.text.now in
     let x = c.in_default-got.field-0 in
     let r = part_refused_lem formulas_counts (length t) (formulas_part t) x
@@ -68,10 +66,10 @@ returns-in_default-got c = let counts : HeadKept c.args.text.now = record {
 
 pub overflow_add-taken : goal.overflow_add-taken
 overflow_add-taken c = let counts : HeadKept c.args.text.now = record {
-      counts = c.in-Read.counts;
-      at = c.in-Read.at;
-      is = sym c.read_head-head.ensures.value ∙ c.in-Read.is;
-    } in
+  counts = c.in-Read.counts;
+  at = c.in-Read.at;
+  is = sym c.read_head-head.ensures.value ∙ c.in-Read.is;
+} in
     let forms : SectionKept form_entry (length (behind_head counts)) (forms_read counts) = record {
       at = c.in-Read-got.more;
       is = sym c.read_forms-got.ensures.value ∙ c.in-Read-got.is;
@@ -79,7 +77,6 @@ overflow_add-taken c = let counts : HeadKept c.args.text.now = record {
       len = length c.args.forms.now;
       stored = c.read_forms-got.ensures.forms_after;
     } in
-    
     omega (
       arith,
       forms_inside counts forms,
@@ -88,10 +85,10 @@ overflow_add-taken c = let counts : HeadKept c.args.text.now = record {
 
 pub returns : goal.returns
 returns c = let counts : HeadKept c.args.text.now = record {
-      counts = c.in-Read.counts;
-      at = c.in-Read.at;
-      is = sym c.read_head-head.ensures.value ∙ c.in-Read.is;
-    } in
+  counts = c.in-Read.counts;
+  at = c.in-Read.at;
+  is = sym c.read_head-head.ensures.value ∙ c.in-Read.is;
+} in
     let forms : SectionKept form_entry (length (behind_head counts)) (forms_read counts) = record {
       at = c.in-Read-got.more;
       is = sym c.read_forms-got.ensures.value ∙ c.in-Read-got.is;
@@ -100,7 +97,6 @@ returns c = let counts : HeadKept c.args.text.now = record {
       stored = c.read_forms-got.ensures.forms_after;
     } in
     let few : c.in-Read.counts.formulas ≤ most_formulas = subst (λ h. formula_count h ≤ most_formulas) c.in-Read.is c.read_head-head.ensures.few_formulas in
-    
     let r = forms_joined counts forms in
     record {
       value = r.0;

@@ -14,7 +14,6 @@ pub returns-in_default : goal.returns-in_default
 returns-in_default c = let found : c.formula_line-got.result ≡ number_line_of (shaped_as (below_refusal c.args.formulas) (number (value_of (bytes "goal=") c.args.text.now))) = c.formula_line-got.ensures ∙ ap
     (λ t. number_line_of (shaped_as (below_refusal c.args.formulas) (number t)))
     c.value_of-value.ensures in
-    
     c.in_default.is ∙ class_before goal_in c.args.classes.now
     c.args.formulas
     (number (value_of (bytes "goal=") c.args.text.now)) _
@@ -24,7 +23,6 @@ pub returns-then-allowed : goal.returns-then-allowed
 returns-then-allowed c = let found : c.formula_line-got.result ≡ number_line_of (shaped_as (below_refusal c.args.formulas) (number (value_of (bytes "goal=") c.args.text.now))) = c.formula_line-got.ensures ∙ ap
     (λ t. number_line_of (shaped_as (below_refusal c.args.formulas) (number t)))
     c.value_of-value.ensures in
-    
     let a = c.args in
     class_met goal_in a.classes.now a.formulas (number (value_of (bytes "goal=") a.text.now))
     c.in-Number.f
@@ -35,7 +33,6 @@ pub returns : goal.returns
 returns c = let found : c.formula_line-got.result ≡ number_line_of (shaped_as (below_refusal c.args.formulas) (number (value_of (bytes "goal=") c.args.text.now))) = c.formula_line-got.ensures ∙ ap
     (λ t. number_line_of (shaped_as (below_refusal c.args.formulas) (number t)))
     c.value_of-value.ensures in
-    
     let a = c.args in
     class_unmet goal_in a.classes.now a.formulas (number (value_of (bytes "goal=") a.text.now))
     c.in-Number.f

@@ -1,4 +1,4 @@
-use Prim.Native.Nat.{◌+◌, ◌-◌, ◌≤◌, ◌<◌}
+use Prim.Native.Nat.{◌+◌, ◌≤◌, ◌<◌}
 use mathlib.Core.Path.{◌∙◌}
 use lib.ListN.{length}
 use Rattle.scope.specs.Limits.{most_policy_lines}
@@ -20,7 +20,7 @@ loop-i-init c =
 
 pub returns-in_default : goal.returns-in_default
 returns-in_default c = let line : LineAsked "clause=" (clause_asked c.args.classes.now c.args.formulas) c.loop-i.rest.now = record { value = c.value_of-value.result.now; part = c.value_of-value.ensures; answer = c.clause_line-got.result; about = c.clause_line-got.ensures } in
-     let all = clause_stops c.args.classes.now
+    let all = clause_stops c.args.classes.now
     c.args.formulas
     c.loop-i.invariant c.loop-i-test.true
     line
@@ -30,33 +30,33 @@ returns-in_default c = let line : LineAsked "clause=" (clause_asked c.args.class
 
 pub overflow_cast-at : goal.overflow_cast-at
 overflow_cast-at c = let few : c.loop-i.i < most_policy_lines = omega (
-      arith,
-      c.requires.0,
-      c.loop-i-test.true,
-    ) in
-     omega (arith, few)
+  arith,
+  c.requires.0,
+  c.loop-i-test.true,
+) in
+    omega (arith, few)
 
 pub offset_bounds-policy-at : goal.offset_bounds-policy-at
 offset_bounds-policy-at c = let few : c.loop-i.i < most_policy_lines = omega (
-      arith,
-      c.requires.0,
-      c.loop-i-test.true,
-    ) in
-     omega (arith, few)
+  arith,
+  c.requires.0,
+  c.loop-i-test.true,
+) in
+    omega (arith, few)
 
 pub bounds-policy-at : goal.bounds-policy-at
 bounds-policy-at c = let few : c.loop-i.i < most_policy_lines = omega (
-      arith,
-      c.requires.0,
-      c.loop-i-test.true,
-    ) in
+  arith,
+  c.requires.0,
+  c.loop-i-test.true,
+) in
     let room : c.loop-i.i + 1 ≤ length c.loop-i.policy = omega (
       arith,
       few,
       c.requires.1,
       c.loop-i.invariant.long,
     ) in
-     omega (arith, room)
+    omega (arith, room)
 
 pub overflow_add-past : goal.overflow_add-past
 overflow_add-past c = let line : LineAsked "clause=" (clause_asked c.args.classes.now c.args.formulas) c.loop-i.rest.now = record { value = c.value_of-value.result.now; part = c.value_of-value.ensures; answer = c.clause_line-got.result; about = c.clause_line-got.ensures } in
@@ -65,7 +65,6 @@ overflow_add-past c = let line : LineAsked "clause=" (clause_asked c.args.classe
     c.loop-i.invariant c.loop-i-test.true
     line
     c.in-Number.f c.in-Number.is in
-    
     omega (arith, (behind).inside, c.well_formed.0.0)
 
 pub slice_bounds-next-count : goal.slice_bounds-next-count
@@ -75,7 +74,7 @@ slice_bounds-next-count c = let line : LineAsked "clause=" (clause_asked c.args.
     c.loop-i.invariant c.loop-i-test.true
     line
     c.in-Number.f c.in-Number.is in
-     (behind).inside
+    (behind).inside
 
 pub slice_bounds-next-start : goal.slice_bounds-next-start
 slice_bounds-next-start c = let line : LineAsked "clause=" (clause_asked c.args.classes.now c.args.formulas) c.loop-i.rest.now = record { value = c.value_of-value.result.now; part = c.value_of-value.ensures; answer = c.clause_line-got.result; about = c.clause_line-got.ensures } in
@@ -84,7 +83,7 @@ slice_bounds-next-start c = let line : LineAsked "clause=" (clause_asked c.args.
     c.loop-i.invariant c.loop-i-test.true
     line
     c.in-Number.f c.in-Number.is in
-     (behind).inside
+    (behind).inside
 
 pub overflow_add-i : goal.overflow_add-i
 overflow_add-i c = omega (arith, c.requires.0)
@@ -102,7 +101,6 @@ loop-i-preserved c = let line : LineAsked "clause=" (clause_asked c.args.classes
       c.requires.1,
       c.loop-i.invariant.long,
     ) in
-    
     clause_turn c.args.classes.now
     c.args.formulas
     c.loop-i.invariant

@@ -26,7 +26,7 @@ returns-in_default c = let all = let n = c.args.counts.formulas in
     (clauses_stopped c.args.forms.now n t k
     (sym c.count_line-count.ensures ∙ c.in_default.is))
     (Part.Refused c.number_refused.result) (ap Part.Refused (c.number_refused.ensures ∙ (λ j. answer_of (refused_at clauses_line (number_refusal (c.in_default.is j)) (c.clauses_at-place.ensures j) t)))) in
-    record { value = all.0; policy_after = all.1; }
+    record { value = all.0; policy_after = all.1 }
 
 pub read_clauses-got-requires : goal.read_clauses-got-requires
 read_clauses-got-requires c = (
@@ -41,15 +41,15 @@ read_clauses-got-requires c = (
 
 pub returns-in_default-got : goal.returns-in_default-got
 returns-in_default-got c = let clauses : ClausesKept c.args.forms.now c.args.counts.formulas c.args.text.now = record {
-      small = c.requires.0;
-      count = c.in-Number.clauses;
-      counted = sym c.count_line-count.ensures ∙ c.in-Number.is;
-      rest = c.rest_of-second.result.now;
-      behind = c.rest_of-second.ensures;
-      classes = c.classes_of-classes.result;
-      tabled = c.classes_of-classes.ensures;
-    } in
-     let all = let t = c.args.text.now in
+  small = c.requires.0;
+  count = c.in-Number.clauses;
+  counted = sym c.count_line-count.ensures ∙ c.in-Number.is;
+  rest = c.rest_of-second.result.now;
+  behind = c.rest_of-second.ensures;
+  classes = c.classes_of-classes.result;
+  tabled = c.classes_of-classes.ensures;
+} in
+    let all = let t = c.args.text.now in
     let x = c.in_default-got.field-0 in
     part_refused_lem (policy_counts c.args.counts) (length t)
     (policy_part (unpack form_entry
@@ -58,18 +58,18 @@ returns-in_default-got c = let clauses : ClausesKept c.args.forms.now c.args.cou
     (lines_stopped clauses x
     (sym c.read_clauses-got.ensures.value ∙ c.in_default-got.is))
     (Part.Refused c.section_refused.result) (ap Part.Refused (c.section_refused.ensures ∙ ap section_refused c.in_default-got.is)) in
-    record { value = all.0; policy_after = all.1; }
+    record { value = all.0; policy_after = all.1 }
 
 pub slice_bounds-third-count : goal.slice_bounds-third-count
 slice_bounds-third-count c = let clauses : ClausesKept c.args.forms.now c.args.counts.formulas c.args.text.now = record {
-      small = c.requires.0;
-      count = c.in-Number.clauses;
-      counted = sym c.count_line-count.ensures ∙ c.in-Number.is;
-      rest = c.rest_of-second.result.now;
-      behind = c.rest_of-second.ensures;
-      classes = c.classes_of-classes.result;
-      tabled = c.classes_of-classes.ensures;
-    } in
+  small = c.requires.0;
+  count = c.in-Number.clauses;
+  counted = sym c.count_line-count.ensures ∙ c.in-Number.is;
+  rest = c.rest_of-second.result.now;
+  behind = c.rest_of-second.ensures;
+  classes = c.classes_of-classes.result;
+  tabled = c.classes_of-classes.ensures;
+} in
     let policy : SectionKept policy_entry (length c.rest_of-second.result.now) (lines_read clauses) = record {
       at = c.in-Read.at;
       is = sym c.read_clauses-got.ensures.value ∙ c.in-Read.is;
@@ -77,18 +77,18 @@ slice_bounds-third-count c = let clauses : ClausesKept c.args.forms.now c.args.c
       len = length c.args.policy.now;
       stored = c.read_clauses-got.ensures.policy_after;
     } in
-     lines_place clauses policy
+    lines_place clauses policy
 
 pub slice_bounds-third-start : goal.slice_bounds-third-start
 slice_bounds-third-start c = let clauses : ClausesKept c.args.forms.now c.args.counts.formulas c.args.text.now = record {
-      small = c.requires.0;
-      count = c.in-Number.clauses;
-      counted = sym c.count_line-count.ensures ∙ c.in-Number.is;
-      rest = c.rest_of-second.result.now;
-      behind = c.rest_of-second.ensures;
-      classes = c.classes_of-classes.result;
-      tabled = c.classes_of-classes.ensures;
-    } in
+  small = c.requires.0;
+  count = c.in-Number.clauses;
+  counted = sym c.count_line-count.ensures ∙ c.in-Number.is;
+  rest = c.rest_of-second.result.now;
+  behind = c.rest_of-second.ensures;
+  classes = c.classes_of-classes.result;
+  tabled = c.classes_of-classes.ensures;
+} in
     let policy : SectionKept policy_entry (length c.rest_of-second.result.now) (lines_read clauses) = record {
       at = c.in-Read.at;
       is = sym c.read_clauses-got.ensures.value ∙ c.in-Read.is;
@@ -96,18 +96,18 @@ slice_bounds-third-start c = let clauses : ClausesKept c.args.forms.now c.args.c
       len = length c.args.policy.now;
       stored = c.read_clauses-got.ensures.policy_after;
     } in
-     lines_place clauses policy
+    lines_place clauses policy
 
 pub returns-in_default-last : goal.returns-in_default-last
 returns-in_default-last c = let clauses : ClausesKept c.args.forms.now c.args.counts.formulas c.args.text.now = record {
-      small = c.requires.0;
-      count = c.in-Number.clauses;
-      counted = sym c.count_line-count.ensures ∙ c.in-Number.is;
-      rest = c.rest_of-second.result.now;
-      behind = c.rest_of-second.ensures;
-      classes = c.classes_of-classes.result;
-      tabled = c.classes_of-classes.ensures;
-    } in
+  small = c.requires.0;
+  count = c.in-Number.clauses;
+  counted = sym c.count_line-count.ensures ∙ c.in-Number.is;
+  rest = c.rest_of-second.result.now;
+  behind = c.rest_of-second.ensures;
+  classes = c.classes_of-classes.result;
+  tabled = c.classes_of-classes.ensures;
+} in
     let policy : SectionKept policy_entry (length c.rest_of-second.result.now) (lines_read clauses) = record {
       at = c.in-Read.at;
       is = sym c.read_clauses-got.ensures.value ∙ c.in-Read.is;
@@ -115,7 +115,7 @@ returns-in_default-last c = let clauses : ClausesKept c.args.forms.now c.args.co
       len = length c.args.policy.now;
       stored = c.read_clauses-got.ensures.policy_after;
     } in
-     let all = let t = c.args.text.now in
+    let all = let t = c.args.text.now in
     let n = c.args.counts.formulas in
     let place = goal_at n c.in-Number.clauses in
     let third = part_from policy.at c.rest_of-second.result.now in
@@ -128,18 +128,18 @@ returns-in_default-last c = let clauses : ClausesKept c.args.forms.now c.args.co
     policy k
     (sym c.goal_line-last.ensures ∙ c.in_default-last.is))
     (Part.Refused c.number_refused-in_default-last.result) (ap Part.Refused (c.number_refused-in_default-last.ensures ∙ (λ j. answer_of (refused_at goal_line (number_refusal (c.in_default-last.is j)) (c.goal_at-place.ensures j) third)))) in
-    record { value = all.0; policy_after = all.1; }
+    record { value = all.0; policy_after = all.1 }
 
 pub overflow_sub-taken : goal.overflow_sub-taken
 overflow_sub-taken c = let clauses : ClausesKept c.args.forms.now c.args.counts.formulas c.args.text.now = record {
-      small = c.requires.0;
-      count = c.in-Number.clauses;
-      counted = sym c.count_line-count.ensures ∙ c.in-Number.is;
-      rest = c.rest_of-second.result.now;
-      behind = c.rest_of-second.ensures;
-      classes = c.classes_of-classes.result;
-      tabled = c.classes_of-classes.ensures;
-    } in
+  small = c.requires.0;
+  count = c.in-Number.clauses;
+  counted = sym c.count_line-count.ensures ∙ c.in-Number.is;
+  rest = c.rest_of-second.result.now;
+  behind = c.rest_of-second.ensures;
+  classes = c.classes_of-classes.result;
+  tabled = c.classes_of-classes.ensures;
+} in
     let policy : SectionKept policy_entry (length c.rest_of-second.result.now) (lines_read clauses) = record {
       at = c.in-Read.at;
       is = sym c.read_clauses-got.ensures.value ∙ c.in-Read.is;
@@ -147,7 +147,6 @@ overflow_sub-taken c = let clauses : ClausesKept c.args.forms.now c.args.counts.
       len = length c.args.policy.now;
       stored = c.read_clauses-got.ensures.policy_after;
     } in
-    
     goal_inside clauses
     policy c.in-Number-last.goal c.rest_of-rest.result.now
     c.rest_of-rest.ensures
@@ -155,14 +154,14 @@ overflow_sub-taken c = let clauses : ClausesKept c.args.forms.now c.args.counts.
 
 pub returns : goal.returns
 returns c = let clauses : ClausesKept c.args.forms.now c.args.counts.formulas c.args.text.now = record {
-      small = c.requires.0;
-      count = c.in-Number.clauses;
-      counted = sym c.count_line-count.ensures ∙ c.in-Number.is;
-      rest = c.rest_of-second.result.now;
-      behind = c.rest_of-second.ensures;
-      classes = c.classes_of-classes.result;
-      tabled = c.classes_of-classes.ensures;
-    } in
+  small = c.requires.0;
+  count = c.in-Number.clauses;
+  counted = sym c.count_line-count.ensures ∙ c.in-Number.is;
+  rest = c.rest_of-second.result.now;
+  behind = c.rest_of-second.ensures;
+  classes = c.classes_of-classes.result;
+  tabled = c.classes_of-classes.ensures;
+} in
     let policy : SectionKept policy_entry (length c.rest_of-second.result.now) (lines_read clauses) = record {
       at = c.in-Read.at;
       is = sym c.read_clauses-got.ensures.value ∙ c.in-Read.is;
@@ -170,8 +169,8 @@ returns c = let clauses : ClausesKept c.args.forms.now c.args.counts.formulas c.
       len = length c.args.policy.now;
       stored = c.read_clauses-got.ensures.policy_after;
     } in
-     let all = policy_joined clauses
+    let all = policy_joined clauses
     policy c.in-Number-last.goal c.rest_of-rest.result.now
     c.rest_of-rest.ensures
     (sym c.goal_line-last.ensures ∙ c.in-Number-last.is) c.args.counts in
-    record { value = all.0; policy_after = all.1; }
+    record { value = all.0; policy_after = all.1 }

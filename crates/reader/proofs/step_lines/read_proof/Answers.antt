@@ -43,12 +43,12 @@ read_steps-got-requires c = (
 
 pub returns-in_default-got : goal.returns-in_default-got
 returns-in_default-got c = let counted : StepsCounted c.args.counts.formulas c.args.counts.policy c.args.text.now = record {
-      count = c.in-Number.count;
-      counted = sym c.count_line-line.ensures ∙ c.in-Number.is;
-      rest = c.rest_of-rest.result.now;
-      behind = c.rest_of-rest.ensures;
-    } in
-     let all = let t = c.args.text.now in
+  count = c.in-Number.count;
+  counted = sym c.count_line-line.ensures ∙ c.in-Number.is;
+  rest = c.rest_of-rest.result.now;
+  behind = c.rest_of-rest.ensures;
+} in
+    let all = let t = c.args.text.now in
     let x = c.in_default-got.field-0 in
     part_refused_lem (steps_counts c.args.counts) (length t)
     (steps_part c.args.counts.formulas
@@ -66,11 +66,11 @@ overflow_sub-before c =
 
 pub overflow_add-taken : goal.overflow_add-taken
 overflow_add-taken c = let counted : StepsCounted c.args.counts.formulas c.args.counts.policy c.args.text.now = record {
-      count = c.in-Number.count;
-      counted = sym c.count_line-line.ensures ∙ c.in-Number.is;
-      rest = c.rest_of-rest.result.now;
-      behind = c.rest_of-rest.ensures;
-    } in
+  count = c.in-Number.count;
+  counted = sym c.count_line-line.ensures ∙ c.in-Number.is;
+  rest = c.rest_of-rest.result.now;
+  behind = c.rest_of-rest.ensures;
+} in
     let rows : SectionKept step_entry (length c.rest_of-rest.result.now) (rows_read counted) = record {
       at = c.in-Read.at;
       is = sym c.read_steps-got.ensures.value ∙ c.in-Read.is;
@@ -78,7 +78,6 @@ overflow_add-taken c = let counted : StepsCounted c.args.counts.formulas c.args.
       len = length c.args.steps.now;
       stored = c.read_steps-got.ensures.steps_after;
     } in
-    
     omega (
       arith,
       rows_inside counted rows,
@@ -87,11 +86,11 @@ overflow_add-taken c = let counted : StepsCounted c.args.counts.formulas c.args.
 
 pub returns : goal.returns
 returns c = let counted : StepsCounted c.args.counts.formulas c.args.counts.policy c.args.text.now = record {
-      count = c.in-Number.count;
-      counted = sym c.count_line-line.ensures ∙ c.in-Number.is;
-      rest = c.rest_of-rest.result.now;
-      behind = c.rest_of-rest.ensures;
-    } in
+  count = c.in-Number.count;
+  counted = sym c.count_line-line.ensures ∙ c.in-Number.is;
+  rest = c.rest_of-rest.result.now;
+  behind = c.rest_of-rest.ensures;
+} in
     let rows : SectionKept step_entry (length c.rest_of-rest.result.now) (rows_read counted) = record {
       at = c.in-Read.at;
       is = sym c.read_steps-got.ensures.value ∙ c.in-Read.is;
@@ -99,5 +98,5 @@ returns c = let counted : StepsCounted c.args.counts.formulas c.args.counts.poli
       len = length c.args.steps.now;
       stored = c.read_steps-got.ensures.steps_after;
     } in
-     let all = steps_joined counted rows c.args.counts in
+    let all = steps_joined counted rows c.args.counts in
     record { value = all.0; steps_after = all.1 }
