@@ -1,7 +1,7 @@
 // The lines of the index: the name of a request file, and the answer, place, steps and column that
 // judging it should give, parted by one space.
 ghost use Rattle.std.specs.Prelude.{◌≤◌, length};
-ghost use Rattle.io.specs.Counts.{IsPrefixLen};
+ghost use Rattle.std.specs.Counts.{IsPrefixLen};
 
 use crate::outcome::Outcome;
 

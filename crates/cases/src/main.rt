@@ -9,10 +9,14 @@ mod outcome;
 mod report;
 
 ghost use Rattle.std.specs.Prelude.{◌+◌, ◌<◌, ◌≤◌};
-ghost use Rattle.io.specs.Counts.{IsPrefixLen};
+ghost use Rattle.std.specs.Counts.{IsPrefixLen};
 
 use index::Line;
 use outcome::Outcome;
+use std::fs::File;
+use std::io;
+use std::io::Read;
+use std::rt::Files;
 
 // How many bytes of a file were read, and whether it could be opened.
 #[derive(Drop)]
@@ -40,22 +44,21 @@ struct Ran {
     changed: bool,
 }
 
-fn main() {
+fn main(rt: HostRuntime) -> io::Result<()> {
     let mut text = [0u8; 65537];
-    let contents = read_file(b"index", &mut text);
+    let contents = read_file(&rt, b"index", &mut text);
     let length = contents.length;
     // An index that fills its room may be longer, and the cases past its end would never be run.
     if length == 0 || length == 65537 {
-        report::trouble(b"index", b"missing, empty or too long");
-        report::totals(0, 1, 0, 0);
-        return;
+        report::trouble(&rt, b"index", "missing, empty or too long")?;
+        return report::totals(&rt, 0, 1, 0, 0);
     }
-    let tally = run_index(&text[..length]);
-    report::totals(tally.cases, tally.differ, tally.written, tally.changed);
+    let tally = run_index(&rt, &text[..length])?;
+    report::totals(&rt, tally.cases, tally.differ, tally.written, tally.changed)
 }
 
 // Runs each line of the index. A line without its LF may have lost a part, so it is not run.
-fn run_index(text: &[u8]) -> Tally {
+fn run_index(rt: &(impl Files + Print), text: &[u8]) -> io::Result<Tally> {
     let mut cases: u64 = 0;
     let mut differ: u64 = 0;
     let mut written: u64 = 0;
@@ -65,27 +68,27 @@ fn run_index(text: &[u8]) -> Tally {
         let end = index::find_from(text, at, b'\n');
         cases += 1;
         if end == text.len() {
-            report::trouble(&text[at..end], b"line of the index without LF");
+            report::trouble(rt, &text[at..end], "line of the index without LF")?;
             differ += 1;
-            return Tally {
+            return Ok(Tally {
                 cases: cases,
                 differ: differ,
                 written: written,
                 changed: changed,
-            };
+            });
         }
-        let ran = run_line(&text[at..end]);
+        let ran = run_line(rt, &text[at..end])?;
         differ = counted(differ, ran.differs);
         written = counted(written, ran.written);
         changed = counted(changed, ran.changed);
         at = end + 1;
     }
-    Tally {
+    Ok(Tally {
         cases: cases,
         differ: differ,
         written: written,
         changed: changed,
-    }
+    })
 }
 
 // The count, with one more where this is so.
@@ -97,78 +100,99 @@ fn counted(count: u64, more: bool) -> u64
 }
 
 // Runs the request file that this line of the index names.
-fn run_line(line: &[u8]) -> Ran {
+fn run_line(rt: &(impl Files + Print), line: &[u8]) -> io::Result<Ran> {
     let parsed = index::line_of(line);
     let Line::Wants(wanted) = parsed else {
-        report::trouble(line, b"malformed line of the index");
-        return Ran {
+        report::trouble(rt, line, "malformed line of the index")?;
+        return Ok(Ran {
             differs: true,
             written: false,
             changed: false,
-        };
+        });
     };
-    run_case(index::to_space(line), wanted)
+    run_case(rt, index::to_space(line), wanted)
 }
 
 // Judges the request file, and writes it back where it should read.
-fn run_case(name: &[u8], wanted: Outcome) -> Ran {
+fn run_case(rt: &(impl Files + Print), name: &[u8], wanted: Outcome) -> io::Result<Ran> {
     // One byte past the longest file tells that a file is longer.
     let mut file = [0u8; 65537];
-    let contents = read_file(name, &mut file);
+    let contents = read_file(rt, name, &mut file);
     if !contents.opened {
-        report::trouble(name, b"cannot be opened");
-        return Ran {
+        report::trouble(rt, name, "cannot be opened")?;
+        return Ok(Ran {
             differs: true,
             written: false,
             changed: false,
-        };
+        });
     }
     let length = contents.length;
     let text = &file[..length];
-    let differs = !judged_as(name, text, wanted);
+    let differs = !judged_as(rt, name, text, wanted)?;
     let written = back::reads(wanted.answer);
-    let changed = written && !back_same(name, text);
-    Ran {
+    let changed = written && !back_same(rt, name, text)?;
+    Ok(Ran {
         differs: differs,
         written: written,
         changed: changed,
-    }
+    })
 }
 
 // Whether judging the file gives what is wanted.
-fn judged_as(name: &[u8], file: &[u8], wanted: Outcome) -> bool {
+fn judged_as(rt: &impl Print, name: &[u8], file: &[u8], wanted: Outcome) -> io::Result<bool> {
     let got = outcome::judged(file);
     if outcome::same(wanted, got) {
-        return true;
+        return Ok(true);
     }
-    report::difference(name, wanted, got);
-    false
+    report::difference(rt, name, wanted, got)?;
+    Ok(false)
 }
 
 // Whether the file is written back as it stands.
-fn back_same(name: &[u8], file: &[u8]) -> bool {
+fn back_same(rt: &impl Print, name: &[u8], file: &[u8]) -> io::Result<bool> {
     if back::written_back(file) {
-        return true;
+        return Ok(true);
     }
-    report::trouble(name, b"not written back as it stands");
-    false
+    report::trouble(rt, name, "not written back as it stands")?;
+    Ok(false)
 }
 
 // Reads the start of a file, as much as there is room for.
-fn read_file(name: &[u8], room: &mut [u8]) -> Contents
+fn read_file(files: &impl Files, name: &[u8], room: &mut [u8]) -> Contents
     ensures { IsPrefixLen result.length room.new }
 {
-    let fd = os::open_read(name);
-    if fd < 0 {
+    let Ok(path) = str::from_utf8(name) else {
         return Contents {
             length: 0,
             opened: false,
         };
-    }
-    let length = io::read_full(fd, room);
-    libc::close(fd);
+    };
+    let Ok(mut file) = File::open(files, path) else {
+        return Contents {
+            length: 0,
+            opened: false,
+        };
+    };
+    let length = read_full(&mut file, room);
     Contents {
         length: length,
         opened: true,
     }
+}
+
+// Reads until the room is full, the input ends or a read fails, and answers how many bytes of the room that filled.
+fn read_full(from: &mut impl Read, room: &mut [u8]) -> usize
+    ensures { IsPrefixLen result room.new }
+{
+    let mut length = 0;
+    while length < room.len() {
+        let Ok(more) = from.read(&mut room[length..]) else {
+            return length;
+        };
+        if more == 0 {
+            return length;
+        }
+        length += more;
+    }
+    length
 }

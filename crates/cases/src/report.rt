@@ -1,41 +1,42 @@
 // What the program prints.
 use crate::outcome::Outcome;
-use libc::STDOUT_FILENO;
+use std::io;
 
-pub(crate) fn difference(name: &[u8], wanted: Outcome, got: Outcome) {
-    io::write_all(STDOUT_FILENO, name);
-    io::write_all(STDOUT_FILENO, b": wanted ");
-    numbers(wanted);
-    io::write_all(STDOUT_FILENO, b", got ");
-    numbers(got);
-    io::write_all(STDOUT_FILENO, b"\n");
+pub(crate) fn difference(
+    to: &impl Print,
+    name: &[u8],
+    wanted: Outcome,
+    got: Outcome,
+) -> io::Result<()> {
+    to.write_all(name)?;
+    print!(to; ": wanted ")?;
+    numbers(to, wanted)?;
+    print!(to; ", got ")?;
+    numbers(to, got)?;
+    println!(to;)
 }
 
-fn numbers(outcome: Outcome) {
-    io::print_decimal(STDOUT_FILENO, outcome.answer);
-    io::write_all(STDOUT_FILENO, b" ");
-    io::print_decimal(STDOUT_FILENO, outcome.place);
-    io::write_all(STDOUT_FILENO, b" ");
-    io::print_decimal(STDOUT_FILENO, outcome.steps);
-    io::write_all(STDOUT_FILENO, b" ");
-    io::print_decimal(STDOUT_FILENO, outcome.column);
+fn numbers(to: &impl Print, outcome: Outcome) -> io::Result<()> {
+    let answer = outcome.answer;
+    let place = outcome.place;
+    let steps = outcome.steps;
+    let column = outcome.column;
+    print!(to; "{answer} {place} {steps} {column}")
 }
 
 // A case that could not be compared counts as one that differs, and this says why.
-pub(crate) fn trouble(name: &[u8], why: &[u8]) {
-    io::write_all(STDOUT_FILENO, name);
-    io::write_all(STDOUT_FILENO, b": ");
-    io::write_all(STDOUT_FILENO, why);
-    io::write_all(STDOUT_FILENO, b"\n");
+pub(crate) fn trouble(to: &impl Print, name: &[u8], why: &str) -> io::Result<()> {
+    to.write_all(name)?;
+    println!(to; ": {why}")
 }
 
-pub(crate) fn totals(cases: u64, differ: u64, written: u64, changed: u64) {
-    io::print_decimal(STDOUT_FILENO, cases);
-    io::write_all(STDOUT_FILENO, b" cases, ");
-    io::print_decimal(STDOUT_FILENO, differ);
-    io::write_all(STDOUT_FILENO, b" differ\n");
-    io::print_decimal(STDOUT_FILENO, written);
-    io::write_all(STDOUT_FILENO, b" written back, ");
-    io::print_decimal(STDOUT_FILENO, changed);
-    io::write_all(STDOUT_FILENO, b" differ\n");
+pub(crate) fn totals(
+    to: &impl Print,
+    cases: u64,
+    differ: u64,
+    written: u64,
+    changed: u64,
+) -> io::Result<()> {
+    println!(to; "{cases} cases, {differ} differ")?;
+    println!(to; "{written} written back, {changed} differ")
 }

@@ -4,9 +4,11 @@
 
 mod shown;
 
-ghost use Rattle.io.specs.Counts.{IsPrefixLen};
+ghost use Rattle.std.specs.Prelude.{◌≡◌, ◌<◌, length, take, true};
+ghost use Rattle.std.specs.Io.KnownBytes.{Consumes, IsAtEnd};
+ghost use Rattle.std.specs.Counts.{IsPrefixLen};
 
-use libc::{STDERR_FILENO, STDIN_FILENO, STDOUT_FILENO};
+use std::io::{Print, Read};
 
 // How many bytes were read, and whether that is all that there is to judge.
 #[derive(Drop)]
@@ -15,43 +17,44 @@ struct Input {
     whole: bool,
 }
 
-fn main() {
+fn main(rt: HostRuntime) {
     // One byte past the longest file tells that a file is longer, however long it is.
     let mut file = [0u8; 65537];
-    let input = read_input(&mut file);
+    let input = read_input(&mut rt.stdin(), &mut file);
     if !input.whole {
         // A part of a request is not the request, so there is no answer to print.
-        io::write_all(STDERR_FILENO, b"gate: standard input cannot be read\n");
+        let _ = rt
+            .stderr()
+            .write_all(b"gate: standard input cannot be read\n");
         return;
     }
     let length = input.length;
     let printed = gatelib::gate(&file[..length]);
     let mut text = [0u8; 128];
     let end = shown::put_printed(printed, &mut text);
-    let written = io::write_all(STDOUT_FILENO, &text[..end]);
-    if !written {
+    let written = rt.stdout().write_all(&text[..end]);
+    if written.is_err() {
         // An answer that arrives in part, or not at all, is no answer.
-        io::write_all(
-            STDERR_FILENO,
-            b"gate: the answer cannot be written to standard output\n",
-        );
+        let _ = rt
+            .stderr()
+            .write_all(b"gate: the answer cannot be written to standard output\n");
     }
 }
 
 // Reads until the input ends or the file is full. A read that fails is not the input's end.
-fn read_input(file: &mut [u8]) -> Input
-    ensures { IsPrefixLen result.length file.new }
+fn read_input<R: Read>(from: &mut R, file: &mut [u8]) -> Input
+    ensures prefix_len { IsPrefixLen result.length file.new }
+    ensures consumed { Consumes (R.remaining from.old) (R.remaining from.new) (take result.length file.new) }
+    ensures whole { result.whole ≡ true → result.length < length file.new → IsAtEnd (R.remaining from.new) }
 {
     let mut length = 0;
     while length < file.len() {
-        let got = libc::read(STDIN_FILENO, &mut file[length..]);
-        if got < 0 {
+        let Ok(more) = from.read(&mut file[length..]) else {
             return Input {
                 length: length,
                 whole: false,
             };
-        }
-        let more = io::count(got, &file[length..]);
+        };
         if more == 0 {
             return Input {
                 length: length,

@@ -1,6 +1,6 @@
 // The text that the program prints, made in full before any of it is written.
 ghost use Rattle.std.specs.Prelude.{◌+◌, ◌≤◌, ◌≡◌, ◌++◌, length, take};
-ghost use Rattle.io.specs.Counts.{IsPrefixLen};
+ghost use Rattle.std.specs.Counts.{IsPrefixLen};
 ghost use Rattle.gate.specs.Shown.{Longer, Shown};
 
 // Puts the four lines at the start of the text, and answers how long they are.

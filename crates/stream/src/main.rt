@@ -8,6 +8,8 @@
 
 ghost use Rattle.std.specs.Prelude.{◌+◌, ◌*◌, ◌<◌, ◌≤◌, min, get_or, length, ◌≡◌};
 
+use std::io::Read;
+
 fn wide8(x: u8) -> usize
     ensures same { result ≡ x }
     ensures byte { result < 256 }
@@ -46,38 +48,34 @@ fn frame_size(head: &[u8; 4]) -> usize
 }
 
 // Whether the input had all of part's bytes.
-fn read_whole(part: &mut [u8]) -> bool {
-    let n = io::read_full(0, part);
-    n == part.len()
+fn read_whole(from: &mut impl Read, part: &mut [u8]) -> bool {
+    from.read_exact(part).is_ok()
 }
 
 // Reads what a frame has past the bytes that are kept, and forgets it: 4,463 is 70,000 less 65,537.
-fn drop_rest(n: usize) -> bool
+fn drop_rest(from: &mut impl Read, n: usize) -> bool
     requires { n ≤ 4463 }
 {
     let mut rest = [0u8; 4463];
-    read_whole(&mut rest[..n])
+    read_whole(from, &mut rest[..n])
 }
 
 // Prints the gate's answer, and says whether the line could be written.
-fn answer_file(file: &[u8]) -> bool {
+fn answer_file(to: &impl Print, file: &[u8]) -> bool {
     let r = gatelib::gate(file);
-    io::print_decimal(1, wide16(r.answer));
-    io::write_all(1, b" ");
-    io::print_decimal(1, wide32(r.place));
-    io::write_all(1, b" ");
-    io::print_decimal(1, wide16(r.steps));
-    io::write_all(1, b" ");
-    io::print_decimal(1, wide16(r.column));
-    io::write_all(1, b"\n")
+    let answer = wide16(r.answer);
+    let place = wide32(r.place);
+    let steps = wide16(r.steps);
+    let column = wide16(r.column);
+    println!(to; "{answer} {place} {steps} {column}").is_ok()
 }
 
 // Reads a frame and prints its answer; false where there is no further frame.
-fn answer_next(room: &mut [u8]) -> bool
+fn answer_next(from: &mut impl Read, to: &impl Print, room: &mut [u8]) -> bool
     requires { length room.old ≡ 65537 }
 {
     let mut head = [0u8; 4];
-    let whole = read_whole(&mut head);
+    let whole = read_whole(from, &mut head);
     if !whole {
         return false;
     }
@@ -86,23 +84,24 @@ fn answer_next(room: &mut [u8]) -> bool
         return false;
     }
     let kept = least(size, 65537);
-    let read = read_whole(&mut room[..kept]);
+    let read = read_whole(from, &mut room[..kept]);
     if !read {
         return false;
     }
-    let dropped = drop_rest(size - kept);
+    let dropped = drop_rest(from, size - kept);
     if !dropped {
         return false;
     }
-    answer_file(&room[..kept])
+    answer_file(to, &room[..kept])
 }
 
 // A proved loop has to end, and nothing says that the input does: the turns are counted down from
 // a number that no run uses up.
-fn main() {
+fn main(rt: HostRuntime) {
+    let mut input = rt.stdin();
     let mut room = [0u8; 65537];
     let mut turns = u64::MAX;
-    while turns > 0 && answer_next(&mut room) {
+    while turns > 0 && answer_next(&mut input, &rt, &mut room) {
         turns -= 1;
     }
 }

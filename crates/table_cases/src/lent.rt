@@ -1,6 +1,7 @@
 // The tables of P1 with one thing changed, lent to writer and judge.
 use crate::tried;
 use common::Counts;
+use std::io;
 
 // What is changed: three entries of a formula, one entry of a table, or two formulas added of which
 // the last is no goal, since it goes from `says` of an `sf`.
@@ -14,56 +15,63 @@ pub(crate) enum Edit {
     NoChunk,
 }
 
-pub(crate) fn exact(name: &[u8], counts: Counts, edit: Edit) {
+pub(crate) fn exact(to: &impl Print, name: &str, counts: Counts, edit: Edit) -> io::Result<()> {
     let mut forms = [0u16; 3072];
     let mut policy = [0u16; 128];
     let mut steps = [0u16; 4096];
     fill(&mut forms, &mut policy, &mut steps);
     change(edit, &mut forms, &mut policy, &mut steps);
-    tried::both(name, counts, &forms, &policy, &steps);
+    tried::both(to, name, counts, &forms, &policy, &steps)
 }
 
-pub(crate) fn longer(name: &[u8], counts: Counts, edit: Edit) {
+pub(crate) fn longer(to: &impl Print, name: &str, counts: Counts, edit: Edit) -> io::Result<()> {
     let mut forms = [0u16; 3073];
     let mut policy = [0u16; 129];
     let mut steps = [0u16; 4097];
     fill(&mut forms, &mut policy, &mut steps);
     change(edit, &mut forms, &mut policy, &mut steps);
-    tried::both(name, counts, &forms, &policy, &steps);
+    tried::both(to, name, counts, &forms, &policy, &steps)
 }
 
-pub(crate) fn forms_short(name: &[u8], counts: Counts) {
+pub(crate) fn forms_short(to: &impl Print, name: &str, counts: Counts) -> io::Result<()> {
     let mut forms = [0u16; 3071];
     let mut policy = [0u16; 128];
     let mut steps = [0u16; 4096];
     fill(&mut forms, &mut policy, &mut steps);
-    tried::both(name, counts, &forms, &policy, &steps);
+    tried::both(to, name, counts, &forms, &policy, &steps)
 }
 
-pub(crate) fn lines_short(name: &[u8], counts: Counts) {
+pub(crate) fn lines_short(to: &impl Print, name: &str, counts: Counts) -> io::Result<()> {
     let mut forms = [0u16; 3072];
     let mut policy = [0u16; 127];
     let mut steps = [0u16; 4096];
     fill(&mut forms, &mut policy, &mut steps);
-    tried::both(name, counts, &forms, &policy, &steps);
+    tried::both(to, name, counts, &forms, &policy, &steps)
 }
 
-pub(crate) fn steps_short(name: &[u8], counts: Counts) {
+pub(crate) fn steps_short(to: &impl Print, name: &str, counts: Counts) -> io::Result<()> {
     let mut forms = [0u16; 3072];
     let mut policy = [0u16; 128];
     let mut steps = [0u16; 4095];
     fill(&mut forms, &mut policy, &mut steps);
-    tried::both(name, counts, &forms, &policy, &steps);
+    tried::both(to, name, counts, &forms, &policy, &steps)
 }
 
 // Only the writer, and with this output.
-pub(crate) fn into_room(name: &[u8], counts: Counts, edit: Edit, out: &mut [u8]) {
+pub(crate) fn into_room(
+    to: &impl Print,
+    name: &str,
+    counts: Counts,
+    edit: Edit,
+    out: &mut [u8],
+) -> io::Result<()> {
     let mut forms = [0u16; 3072];
     let mut policy = [0u16; 128];
     let mut steps = [0u16; 4096];
     fill(&mut forms, &mut policy, &mut steps);
     change(edit, &mut forms, &mut policy, &mut steps);
-    tried::write_into(name, counts, &forms, &policy, &steps, out);
+    tried::write_into(to, name, counts, &forms, &policy, &steps, out)?;
+    Ok(())
 }
 
 // The three tables of P1, over zeros.

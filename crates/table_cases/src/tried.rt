@@ -1,41 +1,49 @@
 // What writer and judge answer for lent tables, printed; the output is looked at too.
 use common::Counts;
-use libc::STDOUT_FILENO;
 use reader::Reading;
+use std::io;
 
 // Prints the writer's answer, and the judge's in a line of its own where it is another.
-pub(crate) fn both(name: &[u8], counts: Counts, forms: &[u16], policy: &[u16], steps: &[u16]) {
+pub(crate) fn both(
+    to: &impl Print,
+    name: &str,
+    counts: Counts,
+    forms: &[u16],
+    policy: &[u16],
+    steps: &[u16],
+) -> io::Result<()> {
     let mut out = [1u8; 65536];
-    let written = write_into(name, counts, forms, policy, steps, &mut out);
+    let written = write_into(to, name, counts, forms, policy, steps, &mut out)?;
     let judged = judge::judge(counts, forms, policy, steps);
     if judged.refusal == written.refusal && judged.place == written.place {
-        return;
+        return Ok(());
     }
-    io::write_all(STDOUT_FILENO, b"judge ");
-    answered(name, judged.refusal, judged.place);
+    print!(to; "judge ")?;
+    answered(to, name, judged.refusal, judged.place)
 }
 
 // Prints the writer's answer, and a line more where the output is not what the answer says.
 pub(crate) fn write_into(
-    name: &[u8],
+    to: &impl Print,
+    name: &str,
     counts: Counts,
     forms: &[u16],
     policy: &[u16],
     steps: &[u16],
     out: &mut [u8],
-) -> writer::Writing {
+) -> io::Result<writer::Writing> {
     let written = writer::write(counts, forms, policy, steps, out);
-    answered(name, written.refusal, written.place);
+    answered(to, name, written.refusal, written.place)?;
     if written.refusal != 0 && written.length != 0 {
-        trouble(name, b": a length after a refusal\n");
+        trouble(to, name, "a length after a refusal")?;
     }
     if !zero_from(out, written.length) {
-        trouble(name, b": not zero behind the text\n");
+        trouble(to, name, "not zero behind the text")?;
     }
     if written.refusal == 0 && !reads_back(out, written.length, forms, policy, steps) {
-        trouble(name, b": not read back\n");
+        trouble(to, name, "not read back")?;
     }
-    written
+    Ok(written)
 }
 
 // Whether the text reads as these tables, as far as the largest counts go.
@@ -86,16 +94,10 @@ fn zero_from(out: &[u8], from: usize) -> bool {
     true
 }
 
-fn answered(name: &[u8], refusal: u16, place: u32) {
-    io::write_all(STDOUT_FILENO, name);
-    io::write_all(STDOUT_FILENO, b" ");
-    io::print_decimal(STDOUT_FILENO, refusal as u64);
-    io::write_all(STDOUT_FILENO, b" ");
-    io::print_decimal(STDOUT_FILENO, place as u64);
-    io::write_all(STDOUT_FILENO, b"\n");
+fn answered(to: &impl Print, name: &str, refusal: u16, place: u32) -> io::Result<()> {
+    println!(to; "{name} {refusal} {place}")
 }
 
-fn trouble(name: &[u8], why: &[u8]) {
-    io::write_all(STDOUT_FILENO, name);
-    io::write_all(STDOUT_FILENO, why);
+fn trouble(to: &impl Print, name: &str, why: &str) -> io::Result<()> {
+    println!(to; "{name}: {why}")
 }

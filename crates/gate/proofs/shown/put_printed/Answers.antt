@@ -1,0 +1,34 @@
+-- Each line goes on where the one before ends, from an empty text on (`four_lines`), and four lines have 110 bytes at the most.
+-- Assumes nothing.
+use native.Mathlib.Omega.{arith}
+use Rattle.io.proofs.Counting.{prefix_len_of_le}
+use Rattle.gate.proofs.Texts.{four_lines}
+use Rattle.gate.proofs.shown.put_printed.Goals as goal
+
+pub returns : goal.returns
+returns c =
+    let printed = c.args.printed in
+    record {
+      prefix_len = prefix_len_of_le _ _ (omega arith);
+      shown = four_lines
+          printed.answer
+          printed.place
+          printed.steps
+          printed.column
+          _
+          _
+          _
+          _
+          _
+          _
+          _
+          _
+          c.wide16-answer.ensures
+          c.wide32-place.ensures
+          c.wide16-steps.ensures
+          c.wide16-column.ensures
+          c.put_line-first.ensures.longer
+          c.put_line-second.ensures.longer
+          c.put_line-third.ensures.longer
+          c.put_line.ensures.longer;
+    }
