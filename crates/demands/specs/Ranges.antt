@@ -73,31 +73,13 @@ pub where_number : {s : List ℕ} {k i c : ℕ} → Where s k i c → Between 2 
 where_number (of_line b n d w) = (between_wider (omega arith) (omega arith) (of_line_number n), omega (arith, b.place))
 where_number (of_rest b q e z d) = (inl (omega arith), omega (arith, b.place))
 
-read_by : {s : List ℕ} {k place column : ℕ} → ByReading s k place column → Between 1 6 k ⊎ (k ≡ 13)
-read_by (no_room e p c) = inr e
-read_by (too_long e p c) = inl (inl (omega arith))
-read_by (at_line w) = inl (between_wider (omega arith) (omega arith) (where_number w).0)
-
-pub read_number : (forms lines steps : ℕ) (s : List ℕ) (k place column : ℕ) → reading forms lines steps s ≡ refused (told k place column) →
-    Between 1 6 k ⊎ (k ≡ 13)
-read_number f l n s k place column e = read_by (reading_range f l n s k place column e)
-
-some_number : {least most k : ℕ} → 0 < least → Between least most k → 0 < k
+pub some_number : {least most k : ℕ} → 0 < least → Between least most k → 0 < k
 some_number h (inl b) = omega arith
 some_number h (inr e) = omega arith
 
 not_thirteen : {least most k : ℕ} → most < 13 → Between least most k → k ≡ 13 → ⊥
 not_thirteen h (inl b) t = omega arith
 not_thirteen h (inr e) t = omega arith
-
-firm : {s : List ℕ} {k place column : ℕ} → ByReading s k place column → 0 < k
-firm (no_room e p c) = omega arith
-firm (too_long e p c) = omega arith
-firm (at_line w) = some_number (omega arith) (where_number w).0
-
--- A file that reads to nothing is never taken for granted.
-pub reading_firm : (forms lines steps : ℕ) (s : List ℕ) (k place column : ℕ) → reading forms lines steps s ≡ refused (told k place column) → 0 < k
-reading_firm f l n s k place column e = firm (reading_range f l n s k place column e)
 
 -- Tables with room are never found too short.
 pub with_room : (forms lines steps : ℕ) (s : List ℕ) (k place column : ℕ) → has_room forms lines steps ≡ true →
