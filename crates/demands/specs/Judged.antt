@@ -16,7 +16,8 @@ use Rattle.granted.specs.FirstBreak.{break_range}
 use Rattle.sound.specs.Rows.{request_sound}
 use Rattle.scope.specs.Tools.Tests.{never}
 use Rattle.trip.specs.File.{Unrefused}
-use Rattle.trip.specs.Trip.{checked_fine, unmet}
+use Rattle.trip.specs.Trip.{unmet}
+use Rattle.trip.proofs.Trip.{checked_fine}
 use Rattle.demands.specs.InRange.{rows_in}
 use Rattle.demands.specs.Ranges.{checked_range}
 
