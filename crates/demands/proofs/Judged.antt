@@ -7,7 +7,7 @@ use Rattle.scope.specs.Call.Tables.{Lent, request_of}
 use Rattle.scope.specs.Call.Judge.{policy_of, goal_of, judge}
 use Rattle.scope.specs.Logic.Models.{Model, ModelOf, Sat, SatAll, Entailed}
 use Rattle.granted.specs.Reasons.{grants}
-use Rattle.trip.specs.Trip.{checked_fine}
+use Rattle.trip.proofs.Trip.{checked_fine}
 use Rattle.demands.specs.Judged.{steps_settled, steps_entail, Answers, by_steps, judge_allowed, allowed_judge, Grants, allowed_grants}
 
 -- So any two answers allowed are equal.

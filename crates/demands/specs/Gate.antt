@@ -13,8 +13,9 @@ use Rattle.scope.specs.Logic.Room.{within}
 use Rattle.scope.specs.Call.Judge.{policy_of, goal_of, steps_of, start_of, steps_answer, else, judge, Printed, prints, printed, printed_after, gate}
 use Rattle.scope.specs.Logic.Models.{Entailed}
 use Rattle.granted.specs.Reasons.{Settled, grants, breaks}
-use Rattle.trip.specs.Requests.{read_unrefused}
-use Rattle.trip.specs.Trip.{got, read_fine, fine_checked}
+use Rattle.trip.proofs.Requests.{read_unrefused}
+use Rattle.trip.specs.Trip.{got}
+use Rattle.trip.proofs.Trip.{read_fine, fine_checked}
 use Rattle.demands.specs.Judged.{steps_settled, steps_entail, judge_law, else_passes}
 
 -- The gate reads into tables of just the room that is asked for.

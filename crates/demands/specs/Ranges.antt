@@ -19,7 +19,8 @@ use Rattle.scope.specs.Call.Checked.{first_met, each_of, body_answers, line_answ
 use Rattle.scope.specs.Call.Calls.{reading, written_if, writing}
 use Rattle.scope.specs.Tools.Tests.{never}
 use Rattle.trip.specs.LineRefusals.{InShape, range, later, twice, class, OfLine, shape, in_shape_lem, Mild, count_mild, form_mild, clause_mild, goal_mild, step_mild}
-use Rattle.trip.specs.Places.{Where, of_line, of_rest, refused_where}
+use Rattle.trip.specs.Places.{Where, of_line, of_rest}
+use Rattle.trip.proofs.Places.{refused_where}
 
 -- Of reading: 13 and 1 at place 0; 2 to 5 and 15 at the line that met it, and 6 at the line behind the last (`Where`). Only 2 has a column.
 pub data ByReading (s : List ℕ) (k place column : ℕ) : Type 0 where
