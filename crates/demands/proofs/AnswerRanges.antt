@@ -1,4 +1,4 @@
--- The numbers, places and columns of the judge's and of the gate's answers, as document 01's table 'What comes back' has them.
+-- The judge's and the gate's answers have the numbers, places and columns that specs/AnswerRanges names:
 --     judge_range : judge t ≡ told k place column → ByJudging t k place × (column ≡ 0)
 --     gate_range : gate s ≡ prints k place n column → ByGate s k place n column
 -- So the gate prints no number over 12 but 15 (`gate_number`): never 13 or 14.
@@ -11,7 +11,8 @@ use Rattle.scope.specs.Call.Tables.{Lent}
 use Rattle.scope.specs.Call.Judge.{judge, Printed, prints, gate}
 use Rattle.demands.specs.Judged.{judge_allowed}
 use Rattle.demands.specs.Ranges as Range
-use Rattle.demands.specs.Ranges.{Between, between_wider, ByReading, reading_range, where_number, with_room}
+use Rattle.demands.specs.Ranges.{Between, between_wider, ByReading, reading_range, where_number}
+use Rattle.demands.proofs.Ranges.{with_room}
 use Rattle.demands.specs.Gate.{gate_reads, Prints, unread, answered, gate_prints}
 use Rattle.demands.specs.AnswerRanges.{ByJudging, about_steps, ByGate, about_steps, at_line, too_long, settled_range, allowed_range, gate_room, steps_number}
 

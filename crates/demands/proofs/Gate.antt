@@ -1,4 +1,4 @@
--- The demands for the gate, from a file's bytes to the four numbers printed.
+-- What the gate grants: a file whose request reads and whose steps are a derivation.
 use Rattle.std.specs.Prelude.{ℕ, ◌*◌, ◌≡◌, List, length}
 use Rattle.std.proofs.Common.{ap, arith}
 use Rattle.scope.specs.Call.Answer.{answer}

@@ -1,5 +1,4 @@
--- Demands 2 and 3 for the judge: its answer for every lent tables and counts is the refusal of their checks, or else granted exactly when the
--- steps are a derivation within the limits, or else the first step that breaks the rules; and what is granted holds in every model of its logic.
+-- What the judge grants: tables without refusal whose steps are a derivation; and then the goal is entailed.
 use Rattle.std.specs.Prelude.{ℕ, ◌<◌, ◌≡◌, ◌↔◌}
 use Rattle.std.proofs.Common.{sym, ◌∙◌}
 use Rattle.scope.specs.Call.Answer.{Answer, answer}

@@ -1,8 +1,8 @@
 -- The numbers, places and columns of refusals before the steps, as document 01's table 'What comes back' has them.
---     reading-range : reading forms lines steps s ≡ refused (told k place column) → ByReading s k place column
---     checked-range : checked t ≡ told (suc k) place column → ByChecks (suc k) place × (column ≡ 0)
---     writing-range : writing t len ≡ refused (told k place column) → ByWriting k place × (column ≡ 0)
--- So reading refuses 1 to 6, 13 or 15 (`read_number`), and no refusal has number 0 (`reading_firm`).
+--     reading_range : reading forms lines steps s ≡ refused (told k place column) → ByReading s k place column
+--     checked_range : checked t ≡ told (suc k) place column → ByChecks (suc k) place × (column ≡ 0)
+--     writing_range : writing t len ≡ refused (told k place column) → ByWriting k place × (column ≡ 0)
+-- So reading refuses 1 to 6, 13 or 15 (`read_number`), and no refusal has number 0 (`reading_firm`): proofs/Ranges.
 use Rattle.std.specs.Prelude.{ℕ, zero, suc, ◌+◌, ◌<◌, ◌≤◌, ◌≡◌, refl, Bool, true, false, cond, List, [], ◌∷◌, ◌++◌, map, ◌⊎◌, leb, eqb, length}
 use Rattle.std.proofs.Common.{inl, inr, arith}
 use Rattle.scope.specs.Call.Result.{result, refused}
@@ -77,20 +77,6 @@ where_number (of_rest b q e z d) = (inl (omega arith), omega (arith, b.place))
 pub some_number : {least most k : ℕ} → 0 < least → Between least most k → 0 < k
 some_number h (inl b) = omega arith
 some_number h (inr e) = omega arith
-
-not_thirteen : {least most k : ℕ} → most < 13 → Between least most k → k ≡ 13 → ⊥
-not_thirteen h (inl b) t = omega arith
-not_thirteen h (inr e) t = omega arith
-
--- Tables with room are never found too short.
-pub with_room : (forms lines steps : ℕ) (s : List ℕ) (k place column : ℕ) → has_room forms lines steps ≡ true →
-    reading forms lines steps s ≡ refused (told k place column) → k ≡ 13 → ⊥
-unfolding reading
-with_room f l n s k place column h e t = go (leb (length s) most_bytes) (rw h at e)
-  where
-    go : (b : Bool) → cond b (read_request s) (refused (answer 1 0)) ≡ refused (told k place column) → ⊥
-    go true d = not_thirteen (omega arith) (where_number (refused_where s k place column d)).0 t
-    go false d = let z : 1 ≡ k = cc in omega arith
 
 -- The checks: the first refusal met in a list of answers is in its range, put together from the lists of a request's lines.
 record Ranged (By : ℕ → ℕ → Type 0) (list : List Answer) : Type 0 where
