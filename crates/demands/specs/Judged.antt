@@ -13,7 +13,7 @@ use Rattle.scope.specs.Logic.Models.{Model, ModelOf, Sat, SatAll, Entailed}
 use Rattle.granted.specs.Reasons.{Settled, grants, breaks}
 use Rattle.granted.proofs.Statements.{granted, settled}
 use Rattle.granted.proofs.FirstBreak.{break_range}
-use Rattle.sound.specs.Rows.{request_sound}
+use Rattle.sound.proofs.Rows.{request_sound}
 use Rattle.scope.specs.Tools.Tests.{never}
 use Rattle.trip.specs.File.{Unrefused}
 use Rattle.trip.specs.Trip.{checked_fine, unmet}
