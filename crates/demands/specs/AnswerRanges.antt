@@ -14,7 +14,7 @@ use Rattle.scope.specs.Call.Tables.{Lent, step_entry, has_room, request_of}
 use Rattle.scope.specs.Call.Judge.{steps_of, start_of}
 use Rattle.scope.specs.Tools.Unpack.{unpack_length}
 use Rattle.granted.specs.Reasons.{Settled, grants, breaks}
-use Rattle.granted.specs.FirstBreak.{break_range}
+use Rattle.granted.proofs.FirstBreak.{break_range}
 use Rattle.trip.specs.Places.{Where}
 use Rattle.demands.specs.Judged.{Answers, by_tables, by_steps}
 use Rattle.demands.specs.Ranges.{ByChecks, checked_range}

@@ -11,9 +11,9 @@ use Rattle.scope.specs.Logic.Room.{within}
 use Rattle.scope.specs.Call.Judge.{policy_of, goal_of, steps_of, start_of, steps_answer, else, judge}
 use Rattle.scope.specs.Logic.Models.{Entailed}
 use Rattle.granted.specs.Reasons.{Settled, grants, breaks}
-use Rattle.granted.specs.Statements.{granted, settled}
-use Rattle.granted.specs.FirstBreak.{break_range}
-use Rattle.sound.specs.Rows.{request_sound}
+use Rattle.granted.proofs.Statements.{granted, settled}
+use Rattle.granted.proofs.FirstBreak.{break_range}
+use Rattle.sound.proofs.Rows.{request_sound}
 use Rattle.scope.specs.Tools.Tests.{never}
 use Rattle.trip.specs.File.{Unrefused}
 use Rattle.trip.specs.Trip.{unmet}

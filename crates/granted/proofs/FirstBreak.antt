@@ -16,9 +16,9 @@ use Rattle.scope.specs.Logic.Obligation.{Obligation, Step}
 use Rattle.scope.specs.Logic.Walk.{walk}
 use Rattle.granted.specs.Reasons.{Room, Reaches, here, onward, Breaks, too_long, refused, too_much, too_short, Settled}
 use Rattle.granted.specs.Reasons.{grants, breaks}
-use Rattle.granted.specs.Refusals.{in_range_lem}
-use Rattle.granted.specs.Walks.{Turn, on, over, stop, turn, walk_on, walk_over, walk_stop}
-use Rattle.granted.specs.Granted.{granted, never_granted}
+use Rattle.granted.proofs.Refusals.{in_range_lem}
+use Rattle.granted.proofs.Walks.{Turn, on, over, stop, turn, walk_on, walk_over, walk_stop}
+use Rattle.granted.proofs.Granted.{granted, never_granted}
 
 -- A break after one more step done is one place later.
 pub later : {room : Room} {o : Obligation} {new waiting : List Obligation} {x : Step} {xs : List Step} {k p : ℕ} →
