@@ -21,7 +21,8 @@ MEMBER = re.compile(rf"^\s+(?:pub\s+)?((?:{NAME}\s+)*{NAME})\s*:(?:\s|$)")
 INNER = re.compile(rf"^\s+(?:(?:pub|abbrev|unfoldable)\s+)*({NAME})(?:\s*\{{[^{{}}]*\}})*\s*:(?:\s|$)")
 
 # Lemmas that had their present spelling before this script, and would have the name of a definition now.
-LEMMAS = {"has_room", "all_digits", "is_digit", "same_row", "step_row", "by_row", "on_and", "on_or", "with_fact", "row_put", "head_read", "in_order"}
+LEMMAS = {"has_room", "all_digits", "is_digit", "same_row", "step_row", "by_row", "on_and", "on_or", "with_fact", "row_put", "head_read", "in_order",
+          "part_refused", "section_refused", "start_refused"}
 # Definitions that are facts, and so are spelled as types.
 FACTS = {"fitsIn": "FitsIn"}
 
@@ -34,7 +35,7 @@ def declared():
     """The names that are declared: words, types, fields and constructors."""
     words, types, members = set(), set(), set()
     for path in own_files():
-        if path.endswith(("/Proof.antt", "/Answers.antt", "/Invariants.antt")):
+        if "/proofs/" in path and path.endswith(("/Proof.antt", "/Answers.antt", "/Invariants.antt")):
             continue
         inside = False
         for line in open(path, encoding="utf-8"):

@@ -11,37 +11,37 @@ use Rattle.scope.specs.Call.Tables.{has_room}
 use Rattle.classes.specs.Class.{goal_in, policy_in}
 
 -- Before the lines that follow it: the room, unit told with version 1, and the version.
-unfoldable pub headAnswers : ℕ → ℕ → ℕ → ℕ → Logic → List Answer
-headAnswers forms policy steps version logic =
+unfoldable pub head_answers : ℕ → ℕ → ℕ → ℕ → Logic → List Answer
+head_answers forms policy steps version logic =
     answer (demand (has_room forms policy steps) 13 0) 0 ∷
     answer (unit_refusal version logic) 0 ∷
     answer (version_refusal version) version_at ∷
     []
 
-unfoldable pub countAnswers : ℕ → ℕ → ℕ → List Answer
-countAnswers principals atoms formulas =
+unfoldable pub count_answers : ℕ → ℕ → ℕ → List Answer
+count_answers principals atoms formulas =
     answer (principals_refusal principals) principals_at ∷
     answer (atoms_refusal atoms) atoms_at ∷
     answer (formulas_refusal formulas) formulas_at ∷
     []
 
 -- The answer about the row of a formula behind those before it.
-abbrev pub formAnswer : ℕ → ℕ → List Row → Row → Answer
-formAnswer principals atoms before r = answer (form_refusal principals atoms before r) (form_at (length before))
+abbrev pub form_answer : ℕ → ℕ → List Row → Row → Answer
+form_answer principals atoms before r = answer (form_refusal principals atoms before r) (form_at (length before))
 
-unfoldable pub formAnswers : ℕ → ℕ → List Row → List Answer
-formAnswers principals atoms rows = each_of (formAnswer principals atoms) [] rows
+unfoldable pub form_answers : ℕ → ℕ → List Row → List Answer
+form_answers principals atoms rows = each_of (form_answer principals atoms) [] rows
 
-unfoldable pub policyAnswers : List ℕ → ℕ → List ℕ → List Answer
-policyAnswers classes formulas fs =
+unfoldable pub policy_answers : List ℕ → ℕ → List ℕ → List Answer
+policy_answers classes formulas fs =
     each_of (λ before f. answer (class_refusal policy_in classes formulas f) (clause_at formulas (length before))) [] fs
 
-unfoldable pub goalAnswers : List ℕ → ℕ → ℕ → ℕ → ℕ → List Answer
-goalAnswers classes formulas policy goal steps =
+unfoldable pub goal_answers : List ℕ → ℕ → ℕ → ℕ → ℕ → List Answer
+goal_answers classes formulas policy goal steps =
     answer (class_refusal goal_in classes formulas goal) (goal_at formulas policy) ∷
     answer (steps_refusal steps) (steps_at formulas policy) ∷
     []
 
-unfoldable pub stepAnswers : ℕ → ℕ → List Row → List Answer
-stepAnswers formulas policy rows =
+unfoldable pub step_answers : ℕ → ℕ → List Row → List Answer
+step_answers formulas policy rows =
     each_of (λ before r. answer (step_refusal r) (step_at formulas policy (suc (length before)))) [] rows

@@ -17,12 +17,12 @@ use Rattle.checks.specs.declared.Checked.{Checked}
 use Rattle.checks.specs.declared.Checked.TheVariants.{Fine}
 use Rattle.checks.specs.Met.{checked_of, met_in}
 use Rattle.checks.specs.MetLaws.{Passed, passed_none, Turn, turn_of, turn_go, met_one, met_back, fine_none}
-use Rattle.checks.specs.Answers.{countAnswers, formAnswers}
+use Rattle.checks.specs.Answers.{count_answers, form_answers}
 use Rattle.checks.specs.Sections.{forms_length, form_at_lem}
 
 -- Counts that pass are few enough for the slots.
-pub few_formulas : (p a n : ℕ) → met_in (countAnswers p a n) ≡ Fine → n ≤ most_formulas
-unfolding countAnswers count_refusal
+pub few_formulas : (p a n : ℕ) → met_in (count_answers p a n) ≡ Fine → n ≤ most_formulas
+unfolding count_answers count_refusal
 few_formulas p a n e =
     let last : met_in (answer (formulas_refusal n) formulas_at ∷ []) ≡ Fine =
     met_back (answer (principals_refusal p) principals_at ∷ answer (atoms_refusal a) atoms_at ∷ []) (answer (formulas_refusal n) formulas_at ∷ []) e in
@@ -31,7 +31,7 @@ few_formulas p a n e =
     leb-true n most_formulas (both_true (leb 1 n) (leb n most_formulas) range.0).1
 
 pub record FormsPassed (p a n : ℕ) (t slots : List ℕ) (i : ℕ) : Type 0 where
-  pub passed : Passed n (formAnswers p a (unpack form_entry n t)) i
+  pub passed : Passed n (form_answers p a (unpack form_entry n t)) i
   pub keeps : Numbered t i slots
 
 pub forms_none : (p a n : ℕ) (t : List ℕ) → FormsPassed p a n t (replicate most_slots 0) 0
@@ -52,7 +52,7 @@ module _ (p a n : ℕ) (t slots : List ℕ) (i : ℕ) (f : FormsPassed p a n t s
       (λ (m : ℕ). first_of (row_refusal form_kinds p a m (form_row t i)) (demand (negate (is_among (form_row t i) (unpack form_entry i t))) 15 0))
       (sym (unpack_length form_entry i t))
 
-  pub form_turn : Turn n (formAnswers p a (unpack form_entry n t)) i g
+  pub form_turn : Turn n (form_answers p a (unpack form_entry n t)) i g
   form_turn = turn_of h f.passed (form_at_lem p a n t i h) (gave ∙ ap (λ (k : ℕ). checked_of (answer k (form_at i))) asked_is)
 
   pub forms_more : n ≤ most_formulas → g ≡ Fine → FormsPassed p a n t (kept_at (place_in t slots (form_row t i)) i slots) (i + 1)

@@ -5,14 +5,14 @@ use Rattle.scope.specs.Call.Checked.{first_met}
 use Rattle.scope.specs.Call.Tables.{Lent}
 use Rattle.scope.specs.File.Kinds.{logic_of}
 use Rattle.common.specs.declared.Counts.{Counts}
-use Rattle.common.specs.Answers.{answer_of, answerIs}
+use Rattle.common.specs.Answers.{answer_of, answer_is}
 use Rattle.checks.specs.declared.Checked.{Checked}
 use Rattle.checks.specs.declared.Checked.TheVariants.{Fine, Refused}
 
 -- Document 01's number and place for each case.
 unfoldable pub answer_in : Checked → Answer
 answer_in Fine = answer 0 0
-answer_in (Refused r) = answerIs r
+answer_in (Refused r) = answer_is r
 
 -- The case for a number and a place: 0 is no refusal.
 unfoldable pub checked_of : Answer → Checked

@@ -12,7 +12,7 @@ use Rattle.classes.specs.Class.{policy_in}
 use Rattle.classes.specs.Rows.{unpack_at, unpack_before, unpack_length, number_at, form_row, form_row_lem}
 use Rattle.checks.specs.MetLaws.{answer_at}
 use Rattle.refusals.specs.Rows.{class_refusal}
-use Rattle.checks.specs.Answers.{formAnswer, formAnswers, policyAnswers, stepAnswers}
+use Rattle.checks.specs.Answers.{form_answer, form_answers, policy_answers, step_answers}
 
 each_length : {A : Type 0} (about : List A → A → Answer) (before xs : List A) → length (each_of about before xs) ≡ length xs
 unfolding each_of
@@ -45,24 +45,24 @@ module _ {A : Type 0} (e : Entry A) (about : List A → A → Answer) (n : ℕ) 
       ap (about (unpack e i t)) (unpack_at e n t i x h)
 
 -- The three sections.
-pub forms_length : (p a n : ℕ) (t : List ℕ) → length (formAnswers p a (unpack form_entry n t)) ≡ n
-unfolding formAnswers
-forms_length p a n t = section_length form_entry (formAnswer p a) n t
+pub forms_length : (p a n : ℕ) (t : List ℕ) → length (form_answers p a (unpack form_entry n t)) ≡ n
+unfolding form_answers
+forms_length p a n t = section_length form_entry (form_answer p a) n t
 
 pub form_at_lem : (p a n : ℕ) (t : List ℕ) (i : ℕ) → i < n →
-    answer_at (formAnswers p a (unpack form_entry n t)) i ≡ answer (form_refusal p a (unpack form_entry i t) (form_row t i)) (form_at i)
-unfolding formAnswers
+    answer_at (form_answers p a (unpack form_entry n t)) i ≡ answer (form_refusal p a (unpack form_entry i t) (form_row t i)) (form_at i)
+unfolding form_answers
 form_at_lem p a n t i h =
-    section_at form_entry (formAnswer p a) n t i h ∙ ap (formAnswer p a (unpack form_entry i t)) (form_row_lem t i) ∙
+    section_at form_entry (form_answer p a) n t i h ∙ ap (form_answer p a (unpack form_entry i t)) (form_row_lem t i) ∙
     ap (λ m. answer (form_refusal p a (unpack form_entry i t) (form_row t i)) (form_at m)) (unpack_length form_entry i t)
 
-pub lines_length : (cs : List ℕ) (m n : ℕ) (t : List ℕ) → length (policyAnswers cs m (unpack policy_entry n t)) ≡ n
-unfolding policyAnswers
+pub lines_length : (cs : List ℕ) (m n : ℕ) (t : List ℕ) → length (policy_answers cs m (unpack policy_entry n t)) ≡ n
+unfolding policy_answers
 lines_length cs m n t = section_length policy_entry (λ b f. answer (class_refusal policy_in cs m f) (clause_at m (length b))) n t
 
 pub line_at : (cs : List ℕ) (m n : ℕ) (t : List ℕ) (i : ℕ) → i < n →
-    answer_at (policyAnswers cs m (unpack policy_entry n t)) i ≡ answer (class_refusal policy_in cs m (get_or t i 0)) (clause_at m i)
-unfolding policyAnswers
+    answer_at (policy_answers cs m (unpack policy_entry n t)) i ≡ answer (class_refusal policy_in cs m (get_or t i 0)) (clause_at m i)
+unfolding policy_answers
 line_at cs m n t i h =
     section_at policy_entry (λ b f. answer (class_refusal policy_in cs m f) (clause_at m (length b))) n t i h ∙
     ap (λ (j : ℕ). answer (class_refusal policy_in cs m (policy_entry.get (take 1 (drop (1 * i) t)))) (clause_at m j)) (unpack_length policy_entry i t) ∙
@@ -80,13 +80,13 @@ step_row_lem t i =
       right = 0;
     }
 
-pub steps_length : (m l n : ℕ) (t : List ℕ) → length (stepAnswers m l (unpack step_entry n t)) ≡ n
-unfolding stepAnswers
+pub steps_length : (m l n : ℕ) (t : List ℕ) → length (step_answers m l (unpack step_entry n t)) ≡ n
+unfolding step_answers
 steps_length m l n t = section_length step_entry (λ b r. answer (step_refusal r) (step_at m l (suc (length b)))) n t
 
 pub step_at_lem : (m l n : ℕ) (t : List ℕ) (i : ℕ) → i < n →
-    answer_at (stepAnswers m l (unpack step_entry n t)) i ≡ answer (step_refusal (step_row t i)) (step_at m l (suc i))
-unfolding stepAnswers
+    answer_at (step_answers m l (unpack step_entry n t)) i ≡ answer (step_refusal (step_row t i)) (step_at m l (suc i))
+unfolding step_answers
 step_at_lem m l n t i h =
     section_at step_entry (λ b r. answer (step_refusal r) (step_at m l (suc (length b)))) n t i h ∙
     ap (λ (j : ℕ). answer (step_refusal (step_entry.get (take 2 (drop (2 * i) t)))) (step_at m l (suc j))) (unpack_length step_entry i t) ∙

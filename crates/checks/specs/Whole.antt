@@ -18,11 +18,11 @@ use Rattle.checks.specs.MetLaws.{first_answer, met_down, met_stop, met_go, met_f
 use Rattle.checks.specs.declared.Checked.{Checked}
 use Rattle.checks.specs.declared.Checked.TheVariants.{Fine, Refused}
 use Rattle.refusals.specs.Rows.{class_refusal}
-use Rattle.checks.specs.Answers.{headAnswers, countAnswers, formAnswers, policyAnswers, goalAnswers, stepAnswers}
+use Rattle.checks.specs.Answers.{head_answers, count_answers, form_answers, policy_answers, goal_answers, step_answers}
 
 -- What is asked first: the room, the logic with its version, and the version.
 abbrev pub head_part : Lent → List Answer
-head_part t = headAnswers (length t.form_table) (length t.policy_table) (length t.step_table) t.version t.logic
+head_part t = head_answers (length t.form_table) (length t.policy_table) (length t.step_table) t.version t.logic
 
 -- The lines from `principals=` on, as version 1 counts them, and where they stand.
 abbrev pub body_part : Lent → List Answer
@@ -33,17 +33,17 @@ down_part t = map (further_down (extra_lines t.version)) (body_part t)
 
 -- The counts of principals, atoms and formulas, and the formulas.
 abbrev pub form_part : Lent → List Answer
-form_part t = countAnswers t.principals t.atoms t.formulas ++ formAnswers t.principals t.atoms (unpack form_entry t.formulas t.form_table)
+form_part t = count_answers t.principals t.atoms t.formulas ++ form_answers t.principals t.atoms (unpack form_entry t.formulas t.form_table)
 
 -- The count of policy lines, and those lines.
 abbrev pub line_part : Lent → List ℕ → List Answer
 line_part t classes =
-    (answer (clauses_refusal t.policy) (clauses_at t.formulas) ∷ []) ++ policyAnswers classes t.formulas (unpack policy_entry t.policy t.policy_table)
+    (answer (clauses_refusal t.policy) (clauses_at t.formulas) ∷ []) ++ policy_answers classes t.formulas (unpack policy_entry t.policy t.policy_table)
 
 -- The goal, the count of steps, and the steps.
 abbrev pub step_part : Lent → List ℕ → List Answer
 step_part t classes =
-    goalAnswers classes t.formulas t.policy t.goal t.steps ++ stepAnswers t.formulas t.policy (unpack step_entry t.steps t.step_table)
+    goal_answers classes t.formulas t.policy t.goal t.steps ++ step_answers t.formulas t.policy (unpack step_entry t.steps t.step_table)
 
 -- What is past the counts.
 abbrev pub past_part : Lent → List Answer
@@ -56,14 +56,14 @@ later_at t n l s =
     (answer (clauses_refusal l) (clauses_at n) ∷ []) ++
     (each_of (λ before f. answer (clause_refusal forms f) (clause_at n (length before))) [] (unpack policy_entry t.policy t.policy_table) ++
     ((answer (goal_refusal forms t.goal) (goal_at n l) ∷ answer (steps_refusal s) (steps_at n l) ∷ []) ++
-    stepAnswers n l (unpack step_entry t.steps t.step_table)))
+    step_answers n l (unpack step_entry t.steps t.step_table)))
 
 pub later : Lent → List Answer
 later t = later_at t t.formulas t.policy t.steps
 
 whole_at : Lent → ℕ → ℕ → ℕ → List Answer
 whole_at t n l s =
-    (countAnswers t.principals t.atoms n ++ formAnswers t.principals t.atoms (unpack form_entry t.formulas t.form_table)) ++
+    (count_answers t.principals t.atoms n ++ form_answers t.principals t.atoms (unpack form_entry t.formulas t.form_table)) ++
     later_at t n l s
 
 regroup : (a f c p g s : List Answer) → a ++ (f ++ (c ++ (p ++ (g ++ (s ++ []))))) ≡ (a ++ f) ++ (c ++ (p ++ (g ++ s)))
@@ -73,16 +73,16 @@ as_listed : (t : Lent) →
     body_part t ≡
     whole_at t (length (unpack form_entry t.formulas t.form_table)) (length (unpack policy_entry t.policy t.policy_table))
     (length (unpack step_entry t.steps t.step_table))
-unfolding request_of body_answers countAnswers formAnswers stepAnswers whole_at later_at
+unfolding request_of body_answers count_answers form_answers step_answers whole_at later_at
 as_listed t =
     let forms = unpack form_entry t.formulas t.form_table in
     let n = length forms in
     let l = length (unpack policy_entry t.policy t.policy_table) in
-    regroup (countAnswers t.principals t.atoms n) (formAnswers t.principals t.atoms forms)
+    regroup (count_answers t.principals t.atoms n) (form_answers t.principals t.atoms forms)
     (answer (clauses_refusal l) (clauses_at n) ∷ [])
     (each_of (λ before f. answer (clause_refusal forms f) (clause_at n (length before))) [] (unpack policy_entry t.policy t.policy_table))
     (answer (goal_refusal forms t.goal) (goal_at n l) ∷ answer (steps_refusal (length (unpack step_entry t.steps t.step_table))) (steps_at n l) ∷ [])
-    (stepAnswers n l (unpack step_entry t.steps t.step_table))
+    (step_answers n l (unpack step_entry t.steps t.step_table))
 
 as_counted : (t : Lent) → body_part t ≡ whole_at t t.formulas t.policy t.steps
 as_counted t =
@@ -98,7 +98,7 @@ unfolding whole_at later later_at
 body_parts t = as_counted t
 
 asked_parts : (t : Lent) → checked t ≡ first_met (head_part t ++ (down_part t ++ past_part t))
-unfolding checked headAnswers line_answers request_of
+unfolding checked head_answers line_answers request_of
 asked_parts t = refl
 
 pub checked_parts : (t : Lent) → checked_of (checked t) ≡ met_in (head_part t ++ (down_part t ++ past_part t))
@@ -134,7 +134,7 @@ goal_refusal_lem t n f h =
 
 pub later_parts : (t : Lent) → t.formulas ≤ most_formulas →
     later t ≡ line_part t (class_table t.form_table t.formulas) ++ step_part t (class_table t.form_table t.formulas)
-unfolding later later_at policyAnswers goalAnswers
+unfolding later later_at policy_answers goal_answers
 later_parts t h =
     let n = t.formulas in
     let forms = unpack form_entry n t.form_table in
@@ -147,7 +147,7 @@ later_parts t h =
         (answer (clauses_refusal t.policy) (clauses_at t.formulas) ∷ []) ++
         (each_of (λ before f. answer (line f) (clause_at t.formulas (length before))) [] (unpack policy_entry t.policy t.policy_table) ++
         ((answer goal (goal_at t.formulas t.policy) ∷ answer (steps_refusal t.steps) (steps_at t.formulas t.policy) ∷ []) ++
-        stepAnswers t.formulas t.policy (unpack step_entry t.steps t.step_table)))
+        step_answers t.formulas t.policy (unpack step_entry t.steps t.step_table)))
 
 count_go : (b c : Bool) → demand (both b c) 3 0 ≡ 0 → c ≡ true
 unfolding demand both
@@ -156,9 +156,9 @@ count_go true false e = let z : ◌≡◌ {A = ℕ} 0 1 = omega arith in absurd 
 count_go false c e = absurd (omega arith)
 
 pub formulas_within : (t : Lent) → met_in (form_part t) ≡ Fine → t.formulas ≤ most_formulas
-unfolding countAnswers count_refusal
+unfolding count_answers count_refusal
 formulas_within t e =
-    let counts = met_front (countAnswers t.principals t.atoms t.formulas) (formAnswers t.principals t.atoms (unpack form_entry t.formulas t.form_table)) e in
+    let counts = met_front (count_answers t.principals t.atoms t.formulas) (form_answers t.principals t.atoms (unpack form_entry t.formulas t.form_table)) e in
     let fine : met_in (answer (formulas_refusal t.formulas) 4 ∷ []) ≡ Fine =
     met_back (answer (principals_refusal t.principals) 2 ∷ answer (atoms_refusal t.atoms) 3 ∷ []) (answer (formulas_refusal t.formulas) 4 ∷ []) counts in
     let none = fine_none (formulas_refusal t.formulas) 4 (sym (met_one (answer (formulas_refusal t.formulas) 4)) ∙ fine) in

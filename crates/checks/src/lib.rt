@@ -11,7 +11,7 @@ ghost use Rattle.checks.specs.Met.{checked_of, met_in, down_of, place_of, lent_w
 ghost use Rattle.scope.specs.Limits.{most_formulas, form_at};
 ghost use Rattle.scope.specs.File.Kinds.{form_kinds, logic_of};
 ghost use Rattle.numbering.specs.Refused.{repeat_refusal};
-ghost use Rattle.checks.specs.Answers.{headAnswers, countAnswers, formAnswers, policyAnswers, stepAnswers};
+ghost use Rattle.checks.specs.Answers.{head_answers, count_answers, form_answers, policy_answers, step_answers};
 ghost use Rattle.refusals.specs.Rows.{row};
 ghost use Rattle.checks.specs.Whole.{form_part, line_part, step_part};
 
@@ -46,7 +46,7 @@ fn room_refusal(forms: usize, policy: usize, steps: usize) -> u16
 }
 
 fn check_counts(principals: u16, atoms: u16, formulas: u16) -> Checked
-    ensures { result ≡ met_in (countAnswers principals atoms formulas) }
+    ensures { result ≡ met_in (count_answers principals atoms formulas) }
 {
     let first = answer_at(
         rows::count_refusal(1, common::MOST_PRINCIPALS, principals),
@@ -94,7 +94,7 @@ fn check_form(
 
 fn check_forms(principals: u16, atoms: u16, count: u16, forms: &[u16]) -> Checked
     requires { count ≤ most_formulas }
-    ensures { result ≡ met_in (formAnswers principals atoms (unpack form_entry count forms.now)) }
+    ensures { result ≡ met_in (form_answers principals atoms (unpack form_entry count forms.now)) }
 {
     let mut slots = [0u16; SLOTS];
     let mut i: u16 = 0;
@@ -114,7 +114,7 @@ fn check_forms(principals: u16, atoms: u16, count: u16, forms: &[u16]) -> Checke
 }
 
 fn check_clauses(classes: &[u8], formulas: u16, count: u16, policy: &[u16]) -> Checked
-    ensures { result ≡ met_in (policyAnswers classes.now formulas (unpack policy_entry count policy.now)) }
+    ensures { result ≡ met_in (policy_answers classes.now formulas (unpack policy_entry count policy.now)) }
 {
     let mut i: u16 = 0;
     while i < count {
@@ -129,7 +129,7 @@ fn check_clauses(classes: &[u8], formulas: u16, count: u16, policy: &[u16]) -> C
 }
 
 fn check_steps(formulas: u16, policy: u16, count: u16, steps: &[u16]) -> Checked
-    ensures { result ≡ met_in (stepAnswers formulas policy (unpack step_entry count steps.now)) }
+    ensures { result ≡ met_in (step_answers formulas policy (unpack step_entry count steps.now)) }
 {
     let mut i: u16 = 0;
     while i < count {
@@ -212,7 +212,7 @@ fn check_proof(counts: Counts, classes: &[u8], steps: &[u16]) -> Checked
 
 // The room, unit with version 1, and the version.
 fn check_head(counts: Counts, forms: usize, policy: usize, steps: usize) -> Checked
-    ensures { result ≡ met_in (headAnswers forms policy steps counts.version (logic_of counts.logic)) }
+    ensures { result ≡ met_in (head_answers forms policy steps counts.version (logic_of counts.logic)) }
 {
     let room = answer_at(room_refusal(forms, policy, steps), 0);
     let Checked::Fine = room else {

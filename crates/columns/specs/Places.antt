@@ -8,10 +8,9 @@ use Rattle.std.proofs.Math.Seq.{drop-cons}
 use Rattle.scope.specs.File.Number.{number}
 use Rattle.scope.specs.File.Kinds.{Kind, kind_in, kind_stop, kinds_stop}
 use Rattle.scope.specs.Tools.Tests.{never}
-use Rattle.trip.specs.LineStops.{number_within}
 use Rattle.lines.specs.Parts.{tail_part}
 use Rattle.scope.specs.File.Stops.{number_stop, none_stop, byte_stop, word_stop, end_stop, stopped_at, digits_stop, items_stop, larger}
-use Rattle.lines.specs.Answers.{numberAnswer}
+use Rattle.lines.specs.Answers.{number_answer}
 use Rattle.lines.specs.Operands.{number_some}
 use Rattle.lines.specs.declared.Number.TheVariants as N
 use Rattle.columns.specs.NumberPart.{number_whole}
@@ -125,11 +124,11 @@ digits_some f s k e z = rw (← e) (go k z)
     go (suc j) q = refl
 
 -- What the number reader answers.
-pub value_stop : (s : List ℕ) (n : ℕ) → numberAnswer (number s) (number_stop s) ≡ N.Value n → length s ≡ number_stop s
+pub value_stop : (s : List ℕ) (n : ℕ) → number_answer (number s) (number_stop s) ≡ N.Value n → length s ≡ number_stop s
 value_stop s n e = number_whole s n (number_some (number s) (number_stop s) n e)
 
-pub bad_stop : (o : Option ℕ) (stop at : ℕ) → numberAnswer o stop ≡ N.Bad at → at ≡ stop
-unfolding numberAnswer
+pub bad_stop : (o : Option ℕ) (stop at : ℕ) → number_answer o stop ≡ N.Bad at → at ≡ stop
+unfolding number_answer
 bad_stop none stop at e = cc
 bad_stop (some n) stop at e = never cc
 

@@ -26,7 +26,7 @@ use Rattle.columns.specs.Unique.{one_column}
 use Rattle.columns.specs.Small.{form_line_small, step_line_small}
 use Rattle.columns.specs.Lines as Lines
 use Rattle.columns.specs.Lines.{Told, number_told, row_told}
-use Rattle.columns.specs.Texts.{Right, At, Lined, column_alike, line_lined, then_lined, done_lined, lined_as, lined_told, further_lined, counted_lined}
+use Rattle.columns.specs.Texts.{Lined, column_alike, line_lined, then_lined, done_lined, lined_as, lined_told, further_lined, counted_lined}
 
 -- One column at most, whatever the lines of the right shape are.
 pub unique : {Whole : List ℕ → Type 0} (s : List ℕ) (n m : ℕ) → Column Whole s n → Column Whole s m → n ≡ m

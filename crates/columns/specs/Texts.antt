@@ -9,7 +9,7 @@ use Rattle.std.proofs.Math.Option.{Option, none, some}
 use Rattle.std.proofs.Math.ListN.{length, length-append}
 use Rattle.scope.specs.Call.Answer.{told, column_for, further_down}
 use Rattle.scope.specs.File.Line.{Line, Value, val, out, Read, ok, bad, Reader, Cut, parts, uncut, cut, strip, shaped_as, valued, placed, line_of, line_stop, line, and_then, ◌>>=◌, done, moved_down, further, many, counted}
-use Rattle.scope.specs.File.Column.{InShape, Goes, Stops, early, cannot, Column}
+use Rattle.scope.specs.File.Column.{InShape, Stops, early, cannot, Column}
 use Rattle.scope.specs.Tools.Tests.{never}
 use Rattle.trip.specs.Cuts.{strip_back}
 use Rattle.trip.specs.LineRefusals.{Mild}

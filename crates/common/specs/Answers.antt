@@ -6,8 +6,8 @@ use Rattle.common.specs.declared.Answer.{Answer as Returned}
 abbrev pub answer_of : Answer → Returned
 answer_of (told k place column) = record { refusal = k; place = place; column = column }
 
-abbrev pub answerIs : Returned → Answer
-answerIs a = told a.refusal a.place a.column
+abbrev pub answer_is : Returned → Answer
+answer_is a = told a.refusal a.place a.column
 
-pub answer_back : (a : Answer) → answerIs (answer_of a) ≡ a
+pub answer_back : (a : Answer) → answer_is (answer_of a) ≡ a
 answer_back (told k place column) = refl

@@ -1,6 +1,6 @@
 -- A text put into the output from a place on, byte by byte: what passes the end is not stored.
-use Rattle.std.specs.Prelude.{ℕ, zero, suc, ◌+◌, ◌≤◌, ◌<◌, ◌≡◌, refl, List, [], ◌∷◌, length, get_or, drop, set}
-use Rattle.std.proofs.Common.{add-one, arith, ap, sym, ◌∙◌, length-set, drop_of_length-le, drop-cons}
+use Rattle.std.specs.Prelude.{ℕ, suc, ◌+◌, ◌≤◌, ◌<◌, ◌≡◌, refl, List, [], ◌∷◌, length, get_or, drop, set}
+use Rattle.std.proofs.Common.{add-one, arith, ap, sym, ◌∙◌, drop_of_length-le, drop-cons}
 use Rattle.std.proofs.lemmas.List.Edits.{sets}
 use Rattle.std.proofs.Math.Seq.{set_out}
 

@@ -2,8 +2,8 @@
 --     judge-range : judge t ≡ told k place column → ByJudging t k place × (column ≡ 0)
 --     gate-range : gate s ≡ prints k place n column → ByGate s k place n column
 -- So the gate prints no number over 12 but 15 (`gate_number`): never 13 or 14.
-use Rattle.std.specs.Prelude.{ℕ, zero, suc, ◌*◌, ◌<◌, ◌≤◌, ◌≡◌, refl, true, List, length}
-use Rattle.std.proofs.Common.{◌∙◌, inl, arith}
+use Rattle.std.specs.Prelude.{ℕ, suc, ◌*◌, ◌<◌, ◌≤◌, ◌≡◌, refl, true, List, length}
+use Rattle.std.proofs.Common.{inl, arith}
 use Rattle.std.proofs.lemmas.List.{length-map}
 use Rattle.scope.specs.Call.Result.{refused}
 use Rattle.scope.specs.Limits.{most_formulas, most_policy_lines, most_steps}

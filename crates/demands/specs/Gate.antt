@@ -1,5 +1,5 @@
 -- The demands for the gate, from a file's bytes to the four numbers printed.
-use Rattle.std.specs.Prelude.{ℕ, zero, ◌*◌, ◌≡◌, refl, List, length}
+use Rattle.std.specs.Prelude.{ℕ, ◌*◌, ◌≡◌, refl, List, length}
 use Rattle.std.proofs.Common.{sym, ap, ◌∙◌, arith}
 use Rattle.scope.specs.Call.Result.{result, refused}
 use Rattle.scope.specs.Call.Answer.{Answer, told, answer}

@@ -1,14 +1,13 @@
 -- 'No formula twice': in a request that reads, and in tables that pass their checks, two formula numbers with the same formula are one.
-use Rattle.std.specs.Prelude.{ℕ, ◌<◌, ◌≡◌, refl, true, false, List, length, get_or, take}
-use Rattle.std.proofs.Common.{sym, ◌∙◌, arith, length-take-le}
+use Rattle.std.specs.Prelude.{ℕ, ◌<◌, ◌≡◌, refl, false, List, length, get_or, take}
+use Rattle.std.proofs.Common.{arith, length-take-le}
 use Rattle.std.proofs.Math.Option.{Option, none, some}
 use Rattle.scope.specs.Call.Result.{result}
 use Rattle.scope.specs.Call.Answer.{answer}
 use Rattle.scope.specs.Call.Tables.{Lent, request_of}
 use Rattle.scope.specs.Call.Checked.{checked}
-use Rattle.scope.specs.File.Kinds.{form_kinds}
 use Rattle.scope.specs.File.Reader.{read_request}
-use Rattle.scope.specs.File.Refusals.{row_refusal, is_among}
+use Rattle.scope.specs.File.Refusals.{is_among}
 use Rattle.scope.specs.File.Request.{Row, Request, formula}
 use Rattle.scope.specs.Tools.Tests.{never}
 use Rattle.trip.specs.File.{Unrefused}

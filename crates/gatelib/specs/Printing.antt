@@ -15,8 +15,7 @@ use Rattle.common.specs.declared.Counts.{Counts}
 use Rattle.common.specs.declared.Answer.{Answer as Returned}
 use Rattle.checks.specs.Met.{lent_with}
 use Rattle.reader.specs.declared.Reading.{Reading}
-use Rattle.reader.specs.declared.Reading.TheVariants as Reading
-use Rattle.reader.specs.Answers.{counts_of, reading_of, logic-back}
+use Rattle.reader.specs.Answers.{counts_of, reading_of, logic_back}
 use Rattle.common.specs.Answers.{answer_of}
 use Rattle.scope.specs.Tools.Tests.{never}
 use Rattle.demands.specs.Gate.{gate_reads, gate_judges, prints_gate, unread}
@@ -51,7 +50,7 @@ lent_is forms policy steps q =
     λ i.
     record {
       version = q.version;
-      logic = logic-back q.logic i;
+      logic = logic_back q.logic i;
       principals = q.principals;
       atoms = q.atoms;
       formulas = length q.forms;

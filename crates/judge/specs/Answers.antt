@@ -6,11 +6,11 @@ use Rattle.machine.specs.declared.Walked.TheVariants as walked
 use Rattle.common.specs.declared.Answer.{Answer}
 
 -- What the checks refuse.
-unfoldable pub refusalAnswer : Checked → Answer
-refusalAnswer checked.Fine = record { refusal = 0; place = 0; column = 0 }
-refusalAnswer (checked.Refused a) = a
+unfoldable pub refusal_answer : Checked → Answer
+refusal_answer checked.Fine = record { refusal = 0; place = 0; column = 0 }
+refusal_answer (checked.Refused a) = a
 
 -- What the walk answers.
-unfoldable pub walkedTo : Walked → Answer
-walkedTo walked.Granted = record { refusal = 0; place = 0; column = 0 }
-walkedTo (walked.Refused r) = record { refusal = r.number; place = r.step; column = 0 }
+unfoldable pub walked_to : Walked → Answer
+walked_to walked.Granted = record { refusal = 0; place = 0; column = 0 }
+walked_to (walked.Refused r) = record { refusal = r.number; place = r.step; column = 0 }

@@ -19,17 +19,17 @@ use Rattle.trip.specs.Trip.{unmet}
 use Rattle.walks.specs.Simulation.{ran_walks}
 use Rattle.demands.specs.Judged.{judge_law, else_passes, else_refused}
 use Rattle.common.specs.Answers.{answer_of}
-use Rattle.judge.specs.Answers.{refusalAnswer, walkedTo}
+use Rattle.judge.specs.Answers.{refusal_answer, walked_to}
 
-pub checks_refuse : (t : Lent) (r : Returned) → checked_of (checked t) ≡ Refused r → refusalAnswer (Refused r) ≡ answer_of (judge t)
-unfolding refusalAnswer checked_of
+pub checks_refuse : (t : Lent) (r : Returned) → checked_of (checked t) ≡ Refused r → refusal_answer (Refused r) ≡ answer_of (judge t)
+unfolding refusal_answer checked_of
 checks_refuse t r e = go (checked t) refl e
   where
-    go : (a : S.Answer) → checked t ≡ a → checked_of a ≡ Refused r → refusalAnswer (Refused r) ≡ answer_of (judge t)
+    go : (a : S.Answer) → checked t ≡ a → checked_of a ≡ Refused r → refusal_answer (Refused r) ≡ answer_of (judge t)
     go (told zero p n) c d = never cc
     go (told (suc k) p n) c d =
         let j : judge t ≡ told (suc k) p n = judge_law t ∙ ap (λ a. else a (steps_answer (request_of t))) c ∙ else_refused k p n (steps_answer (request_of t)) in
-        rw j (ap refusalAnswer (sym d))
+        rw j (ap refusal_answer (sym d))
 
 fine_zero : (t : Lent) → checked_of (checked t) ≡ Fine → checked t ≡ answer 0 0
 unfolding checked_of
@@ -39,13 +39,13 @@ fine_zero t e = go (checked t) refl e
     go (told zero p n) c d = unmet t p n c
     go (told (suc k) p n) c d = never cc
 
-walked_is : (w : Walked) → walkedTo w ≡ answer_of (walked_answer w)
-unfolding walkedTo walked_answer
+walked_is : (w : Walked) → walked_to w ≡ answer_of (walked_answer w)
+unfolding walked_to walked_answer
 walked_is walked.Granted = refl
 walked_is (walked.Refused r) = refl
 
 pub walk_answers : (t : Lent) (unit : Bool) → unit ≡ is_unit t.logic → checked_of (checked t) ≡ Fine →
-    walkedTo (ran unit t.form_table t.policy_table t.step_table t.policy t.goal t.steps) ≡ answer_of (judge t)
+    walked_to (ran unit t.form_table t.policy_table t.step_table t.policy t.goal t.steps) ≡ answer_of (judge t)
 walk_answers t unit u e =
     let c = fine_zero t e in
     let j : judge t ≡ steps_answer (request_of t) = judge_law t ∙ ap (λ a. else a (steps_answer (request_of t))) c ∙ else_passes 0 0 (steps_answer (request_of t)) in

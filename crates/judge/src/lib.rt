@@ -7,7 +7,7 @@ ghost use Rattle.scope.specs.File.Kinds.{logic_of};
 ghost use Rattle.scope.specs.Call.Judge.{judge as judge'};
 ghost use Rattle.checks.specs.Met.{lent_with};
 ghost use Rattle.common.specs.Answers.{answer_of};
-ghost use Rattle.judge.specs.Answers.{refusalAnswer, walkedTo};
+ghost use Rattle.judge.specs.Answers.{refusal_answer, walked_to};
 
 use checks::Checked;
 use common::{Answer, Counts};
@@ -15,7 +15,7 @@ use machine::{Walked, walking};
 
 // Called on a refusal alone: nothing reaches the first case.
 fn refused_by(checks: Checked) -> Answer
-    ensures { result ≡ refusalAnswer checks }
+    ensures { result ≡ refusal_answer checks }
 {
     match checks {
         Checked::Fine => Answer {
@@ -40,7 +40,7 @@ fn is_unit(logic: u16) -> bool
 const GRANTED: u16 = 0;
 
 fn walked_to(walked: Walked) -> Answer
-    ensures { result ≡ walkedTo walked }
+    ensures { result ≡ walked_to walked }
 {
     match walked {
         Walked::Granted => Answer {

@@ -13,18 +13,18 @@ use Rattle.lines.specs.Parts.{up_to}
 use Rattle.lines.specs.Stop.{digit_low, number_bad}
 use Rattle.lines.specs.Words.{later_items, wanted_row}
 use Rattle.lines.specs.Values.{tail_from, item_more, item_only, front_item}
-use Rattle.lines.specs.Answers.{numberAnswer, rowAnswer}
+use Rattle.lines.specs.Answers.{number_answer, row_answer}
 use Rattle.lines.specs.declared.Number.TheVariants as N
 use Rattle.lines.specs.declared.Row.TheVariants as R
 
 -- What an answer says of the number that was asked for.
-pub number_some : (o : Option ℕ) (stop x : ℕ) → numberAnswer o stop ≡ N.Value x → o ≡ some x
-unfolding numberAnswer
+pub number_some : (o : Option ℕ) (stop x : ℕ) → number_answer o stop ≡ N.Value x → o ≡ some x
+unfolding number_answer
 number_some none stop x e = never cc
 number_some (some n) stop x e = cc
 
-pub number_none : (o : Option ℕ) (stop at : ℕ) → numberAnswer o stop ≡ N.Bad at → o ≡ none
-unfolding numberAnswer
+pub number_none : (o : Option ℕ) (stop at : ℕ) → number_answer o stop ≡ N.Bad at → o ≡ none
+unfolding number_answer
 number_none none stop at e = refl
 number_none (some n) stop at e = never cc
 
@@ -90,21 +90,21 @@ module _ (k : ℕ) (s : List ℕ) where
   unfolding wanted_row
   one = as_number (wanted_row k 1) refl (λ ns h. wanted_other k 1 ns (λ x. omega (arith, x, h))) s
 
-  pub one_bad : number s ≡ none → R.Bad ≡ rowAnswer (wanted_row k 1 (numbers (items s)))
-  unfolding rowAnswer wanted_row onto_numbers
+  pub one_bad : number s ≡ none → R.Bad ≡ row_answer (wanted_row k 1 (numbers (items s)))
+  unfolding row_answer wanted_row onto_numbers
   one_bad z = rw (one, z) refl
 
-  pub one_found : (x : ℕ) → number s ≡ some x → R.Items k x 0 ≡ rowAnswer (wanted_row k 1 (numbers (items s)))
-  unfolding rowAnswer wanted_row onto_numbers
+  pub one_found : (x : ℕ) → number s ≡ some x → R.Items k x 0 ≡ row_answer (wanted_row k 1 (numbers (items s)))
+  unfolding row_answer wanted_row onto_numbers
   one_found x z = rw (one, z) refl
 
 -- A kind that wants two.
 module _ (k : ℕ) (s : List ℕ) (e : ℕ) (is : e ≡ up_to 32 s) where
-  pub two_alone : length s ≤ e → R.Bad ≡ rowAnswer (wanted_row k 2 (numbers (items s)))
-  unfolding rowAnswer wanted_row numbers onto_numbers
+  pub two_alone : length s ≤ e → R.Bad ≡ row_answer (wanted_row k 2 (numbers (items s)))
+  unfolding row_answer wanted_row numbers onto_numbers
   two_alone h = rw (item_only s e is h) (go (number s))
     where
-      go : (o : Option ℕ) → R.Bad ≡ rowAnswer (wanted_row k 2 (onto_numbers o (some [])))
+      go : (o : Option ℕ) → R.Bad ≡ row_answer (wanted_row k 2 (onto_numbers o (some [])))
       go none = refl
       go (some x) = refl
 
@@ -123,39 +123,39 @@ module _ (k : ℕ) (s : List ℕ) (e : ℕ) (is : e ≡ up_to 32 s) where
         many none ns l = refl
         many (some x) ns l = wanted_other k 2 (x ∷ ns) (λ y. omega (arith, y, l))
 
-    pub two_first : number (take e s) ≡ none → R.Bad ≡ rowAnswer (wanted_row k 2 (numbers (items s)))
-    unfolding rowAnswer wanted_row onto_numbers
+    pub two_first : number (take e s) ≡ none → R.Bad ≡ row_answer (wanted_row k 2 (numbers (items s)))
+    unfolding row_answer wanted_row onto_numbers
     two_first z = rw (two, z) refl
 
-    pub two_last : (x : ℕ) → number (take e s) ≡ some x → number (tail_from e s) ≡ none → R.Bad ≡ rowAnswer (wanted_row k 2 (numbers (items s)))
-    unfolding rowAnswer wanted_row onto_numbers
+    pub two_last : (x : ℕ) → number (take e s) ≡ some x → number (tail_from e s) ≡ none → R.Bad ≡ row_answer (wanted_row k 2 (numbers (items s)))
+    unfolding row_answer wanted_row onto_numbers
     two_last x z w = rw (two, z, w) refl
 
     pub two_found : (x y : ℕ) → number (take e s) ≡ some x → number (tail_from e s) ≡ some y
-        → R.Items k x y ≡ rowAnswer (wanted_row k 2 (numbers (items s)))
-    unfolding rowAnswer wanted_row onto_numbers
+        → R.Items k x y ≡ row_answer (wanted_row k 2 (numbers (items s)))
+    unfolding row_answer wanted_row onto_numbers
     two_found x y z w = rw (two, z, w) refl
 
 -- A word with nothing behind it, and with a space behind it.
 module _ (k wanted : ℕ) (s : List ℕ) (e : ℕ) (is : e ≡ up_to 32 s) where
-  pub alone_found : length s ≤ e → wanted ≡ 0 → R.Items k 0 0 ≡ rowAnswer (wanted_row k wanted (numbers (later_items (items s))))
-  unfolding rowAnswer wanted_row numbers later_items
+  pub alone_found : length s ≤ e → wanted ≡ 0 → R.Items k 0 0 ≡ row_answer (wanted_row k wanted (numbers (later_items (items s))))
+  unfolding row_answer wanted_row numbers later_items
   alone_found h z = rw (item_only s e is h, z) refl
 
-  pub alone_bad : length s ≤ e → (wanted ≡ 0 → ⊥) → R.Bad ≡ rowAnswer (wanted_row k wanted (numbers (later_items (items s))))
-  unfolding rowAnswer numbers later_items
+  pub alone_bad : length s ≤ e → (wanted ≡ 0 → ⊥) → R.Bad ≡ row_answer (wanted_row k wanted (numbers (later_items (items s))))
+  unfolding row_answer numbers later_items
   alone_bad h z = rw (item_only s e is h) (rw (wanted_other k wanted [] (λ x. z (sym x))) refl)
 
   pub followed : e < length s → (n : ℕ) → wanted ≡ n
-      → rowAnswer (wanted_row k n (numbers (items (tail_from e s)))) ≡ rowAnswer (wanted_row k wanted (numbers (later_items (items s))))
+      → row_answer (wanted_row k n (numbers (items (tail_from e s)))) ≡ row_answer (wanted_row k wanted (numbers (later_items (items s))))
   unfolding later_items
   followed h n z = rw (item_more s e is h, z) refl
 
-  pub followed_bad : e < length s → wanted ≡ 0 → R.Bad ≡ rowAnswer (wanted_row k wanted (numbers (later_items (items s))))
-  unfolding rowAnswer wanted_row
+  pub followed_bad : e < length s → wanted ≡ 0 → R.Bad ≡ row_answer (wanted_row k wanted (numbers (later_items (items s))))
+  unfolding row_answer wanted_row
   followed_bad h z = go (numbers (items (tail_from e s))) refl ∙ followed h 0 z
     where
-      go : (o : Option (List ℕ)) → numbers (items (tail_from e s)) ≡ o → R.Bad ≡ rowAnswer (wanted_row k 0 o)
+      go : (o : Option (List ℕ)) → numbers (items (tail_from e s)) ≡ o → R.Bad ≡ row_answer (wanted_row k 0 o)
       go none f = refl
       go (some ns) f =
           rw (wanted_other k 0 ns (λ x. omega (arith, x, numbers_length (items (tail_from e s)) ns f, some_items (tail_from e s)))) refl

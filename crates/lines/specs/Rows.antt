@@ -15,7 +15,7 @@ use Rattle.lines.specs.Parts.{up_to}
 use Rattle.lines.specs.Words.{code_of, later_items, wanted_row}
 use Rattle.lines.specs.Codes.{AreBytes, bytes_front, same_codes}
 use Rattle.lines.specs.Values.{front_item}
-use Rattle.lines.specs.Answers.{rowAnswer}
+use Rattle.lines.specs.Answers.{row_answer}
 use Rattle.lines.specs.declared.Row.TheVariants as R
 
 abbrev pub codes_of : List Kind → List ℕ
@@ -123,15 +123,15 @@ module _ (ks : List Kind) (small : all_small ks ≡ true) where
     place_is : up_to (code_of (take e s)) (codes_of ks) ≡ k
     place_is = rw (← code) (sym place)
 
-    pub row_unknown : length ks ≤ k → R.Bad ≡ rowAnswer (row_in ks s)
-    unfolding rowAnswer kind_row
+    pub row_unknown : length ks ≤ k → R.Bad ≡ row_answer (row_in ks s)
+    unfolding row_answer kind_row
     row_unknown h = rw (by_word, kind_none (take e s) (bytes_front e s f) ks 0 small (omega (arith, h, place_is))) refl
 
-    pub row_known : k < length ks → rowAnswer (wanted_row k (get_or (counts_of ks) k 0) (numbers (later_items (items s)))) ≡ rowAnswer (row_in ks s)
+    pub row_known : k < length ks → row_answer (wanted_row k (get_or (counts_of ks) k 0) (numbers (later_items (items s)))) ≡ row_answer (row_in ks s)
     row_known h =
         let found : kind_from 0 ks (take e s) ≡ some k = kind_found (take e s) (bytes_front e s f) ks 0 small (omega (arith, h, place_is)) ∙
         ap some (let z : 0 + up_to (code_of (take e s)) (codes_of ks) ≡ k = omega (arith, place_is) in z) in
-        rw (by_word, found, count_is k) (ap rowAnswer (wanted_is ks k (numbers (later_items (items s)))))
+        rw (by_word, found, count_is k) (ap row_answer (wanted_is ks k (numbers (later_items (items s)))))
 
 pub small_forms : all_small form_kinds ≡ true
 unfolding form_kinds all_small

@@ -8,7 +8,7 @@ ghost use Rattle.scope.specs.File.Kinds.{same, items, numbers, form_kinds, step_
 ghost use Rattle.lines.specs.Parts.{up_to, value_of, rest_of};
 ghost use Rattle.scope.specs.File.Stops.{most_digits, number_stop};
 ghost use Rattle.lines.specs.Words.{code_of, later_items, wanted_row, logic_place};
-ghost use Rattle.lines.specs.Answers.{numberAnswer, rowAnswer};
+ghost use Rattle.lines.specs.Answers.{number_answer, row_answer};
 
 use common::{FORM_KINDS, STEP_KINDS};
 
@@ -102,7 +102,7 @@ fn most_digits(text: &[u8]) -> usize
 
 // The number that the whole text writes, or where it stops being one.
 pub fn read_number(text: &[u8]) -> Number
-    ensures { result ≡ numberAnswer (number text.now) (number_stop text.now) }
+    ensures { result ≡ number_answer (number text.now) (number_stop text.now) }
 {
     let most = most_digits(text);
     let mut value: u32 = 0;
@@ -161,7 +161,7 @@ fn find_code(codes: &[u64], code: u64) -> usize
 
 // A row of a kind that wants one number.
 fn one_number(rest: &[u8], kind: usize) -> Row
-    ensures { result ≡ rowAnswer (wanted_row kind 1 (numbers (items rest.now))) }
+    ensures { result ≡ row_answer (wanted_row kind 1 (numbers (items rest.now))) }
 {
     let got = read_number(rest);
     let Number::Value(x) = got else {
@@ -172,7 +172,7 @@ fn one_number(rest: &[u8], kind: usize) -> Row
 
 // A row of a kind that wants two numbers.
 fn two_numbers(rest: &[u8], kind: usize) -> Row
-    ensures { result ≡ rowAnswer (wanted_row kind 2 (numbers (items rest.now))) }
+    ensures { result ≡ row_answer (wanted_row kind 2 (numbers (items rest.now))) }
 {
     let end = find_byte(rest, 32);
     if rest.len() <= end {
@@ -193,7 +193,7 @@ fn two_numbers(rest: &[u8], kind: usize) -> Row
 // A row of a kind, whose word ends at `end`, by the number of operands that the kind wants.
 fn row_with(value: &[u8], end: usize, kind: usize, wanted: u8) -> Row
     requires { (end ≡ up_to 32 value.now) × (wanted ≤ 2) }
-    ensures { result ≡ rowAnswer (wanted_row kind wanted (numbers (later_items (items value.now)))) }
+    ensures { result ≡ row_answer (wanted_row kind wanted (numbers (later_items (items value.now)))) }
 {
     if value.len() <= end {
         if wanted == 0 {
@@ -227,7 +227,7 @@ pub fn logic_number(value: &[u8]) -> u16
 
 // The value of a `form=` line.
 pub fn form_row(value: &[u8]) -> Row
-    ensures { result ≡ rowAnswer (row_in form_kinds value.now) }
+    ensures { result ≡ row_answer (row_in form_kinds value.now) }
 {
     let end = find_byte(value, 32);
     let code = code_of(&value[..end]);
@@ -251,7 +251,7 @@ pub fn form_row(value: &[u8]) -> Row
 
 // The value of a `step=` line.
 pub fn step_row(value: &[u8]) -> Row
-    ensures { result ≡ rowAnswer (row_in step_kinds value.now) }
+    ensures { result ≡ row_answer (row_in step_kinds value.now) }
 {
     let end = find_byte(value, 32);
     let code = code_of(&value[..end]);

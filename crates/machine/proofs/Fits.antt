@@ -22,7 +22,7 @@ use Rattle.moves.specs.declared.Move.TheVariants as move
 use Rattle.moves.specs.declared.Judged.{Judged}
 use Rattle.moves.specs.declared.Judged.TheVariants.{Fits, No}
 use Rattle.moves.specs.Steps.{pick, if_found, and_step, or1_step, or2_step, imp_step, says_step, top_step, sf_step, use_step, left_step, right_step, to_imp, to_says, to_step, hit_step, push_step, split_step, case_step, absurd_step, drop_step, note_step}
-use Rattle.moves.specs.Judge.{find_clause, on_goal, goal_step, on_focus, focus_step, on_chunk, chunk_step, judge_step}
+use Rattle.moves.specs.Judge.{row_at, find_clause, on_goal, goal_step, on_focus, focus_step, on_chunk, chunk_step, judge_step}
 use Rattle.machine.specs.Change.{chunk_count}
 use Rattle.machine.specs.Room.{room}
 
@@ -176,7 +176,7 @@ judged_room : (forms rows clauses ats : List ℕ) (p : Phase) (top : ℕ) (x : S
     FitsIn (judge_step forms rows clauses ats p top x w c n) w c (chunk_count p) n
 unfolding judge_step goal_step focus_step chunk_step chunk_count
 judged_room forms rows clauses ats (phase.Goal g) top x w c n = on_goal_lem w c 0 n forms rows clauses ats _ g x
-judged_room forms rows clauses ats (phase.Chunks g k) top x w c n = on_chunk_lem w c k n _ x
+judged_room forms rows clauses ats (phase.Chunks g k) top x w c n = on_chunk_lem w c k n (row_at forms top) x
 judged_room forms rows clauses ats (phase.Focus part target) top x w c n = on_focus_lem w c 0 n forms rows _ part target x
 
 -- What a caller of the judge knows of a move that fits.

@@ -1,5 +1,5 @@
 -- Refusal 15 by the slots: where they keep the first n rows, looking for a row tells whether document 02 refuses it as one of them.
-use Rattle.std.specs.Prelude.{ℕ, zero, suc, ◌<◌, Bool, true, false, List, [], ◌∷◌, ◌++◌}
+use Rattle.std.specs.Prelude.{ℕ, zero, suc, ◌<◌, List, [], ◌∷◌, ◌++◌}
 use Rattle.std.proofs.Math.Path.{◌≡◌, refl, ap, sym}
 use Rattle.std.proofs.Common.{◌∙◌, arith}
 use Rattle.std.proofs.Math.Option.{Option, none, some}
@@ -8,7 +8,6 @@ use Rattle.scope.specs.File.Request.{Row}
 use Rattle.scope.specs.File.Refusals.{demand, is_among, first_of}
 use Rattle.scope.specs.Limits.{most_formulas}
 use Rattle.scope.specs.Call.Tables.{form_entry, unpack}
-use Rattle.scope.specs.Tools.Tests.{never}
 use Rattle.numbering.specs.declared.Earlier.{Earlier}
 use Rattle.numbering.specs.declared.Earlier.TheVariants.{At, Nothing}
 use Rattle.numbering.specs.Equal.{found, found_among, among_found}

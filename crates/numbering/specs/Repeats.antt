@@ -1,6 +1,6 @@
 -- The first row that repeats an earlier one.
-use Rattle.std.specs.Prelude.{ℕ, zero, suc, ◌+◌, ◌≤◌, ◌<◌, min, ◌≡◌, Bool, true, false, List, ltb, get_or, take, replicate}
-use Rattle.std.proofs.Common.{not-suc-le-zero, add-one, arith, ◌∙◌, length-take, ext_get_or, get_or-take, ltb-true, ltb-false}
+use Rattle.std.specs.Prelude.{ℕ, zero, suc, ◌+◌, ◌≤◌, ◌<◌, ◌≡◌, Bool, true, false, List, ltb, get_or, take, replicate}
+use Rattle.std.proofs.Common.{not-suc-le-zero, add-one, arith, ◌∙◌, ltb-true, ltb-false}
 use Rattle.std.proofs.Math.Path.{refl, ap, sym}
 use Rattle.std.proofs.Math.Option.{Option, none, some}
 use Rattle.std.proofs.Math.ListN.{length}

@@ -5,7 +5,6 @@ use Rattle.scope.specs.Call.Answer.{told, refusal_in, place_in, column_in}
 use Rattle.scope.specs.File.Reader.{Outcome}
 use Rattle.scope.specs.Call.Calls.{no_request, request_in}
 use Rattle.reader.specs.declared.Reading.{Reading}
-use Rattle.reader.specs.declared.Reading.TheVariants as Reading
 use Rattle.reader.specs.Answers.{counts_of, reading_of}
 use Rattle.peraduksi.specs.declared.Read.{Read}
 

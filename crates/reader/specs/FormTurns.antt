@@ -18,18 +18,17 @@ use Rattle.refusals.specs.Rows.{row}
 use Rattle.numbering.specs.Slots.{most_slots, place_in, kept_at}
 use Rattle.numbering.specs.Numbered.{Numbered, numbered_none}
 use Rattle.numbering.specs.Refused.{repeat_told, fresh_kept, neither_refused}
-use Rattle.reader.specs.Answers.{refused_at, rowLineOf, sectionOf}
+use Rattle.reader.specs.Answers.{refused_at, row_line_of, section_of}
 use Rattle.reader.specs.Lines.{no_form, out_row, val_row, row_ok, row_bad, row_behind}
 use Rattle.reader.specs.NewRows.{asked_row, shaped_same, let_through}
 use Rattle.reader.specs.Stored.{form_more, unpack_table}
 use Rattle.reader.specs.Got.{part_from}
 use Rattle.reader.specs.Turns.{Turns, turns_begin, turn_stops, turn_more, LineAsked}
 use Rattle.reader.specs.declared.RowLine.{RowLine}
-use Rattle.reader.specs.declared.RowLine.TheVariants as RowLine
 use Rattle.reader.specs.declared.Section.TheVariants as Section
 
 abbrev pub form_asked : ℕ → ℕ → ℕ → List ℕ → List ℕ → List ℕ → RowLine
-form_asked principals atoms i forms slots v = rowLineOf (shaped_as (asked_row principals atoms i forms slots) (row_in form_kinds v))
+form_asked principals atoms i forms slots v = row_line_of (shaped_as (asked_row principals atoms i forms slots) (row_in form_kinds v))
 
 -- The rows read so far stand in the table, and the slots keep them.
 pub record FormTurns (principals atoms n : ℕ) (text : List ℕ) (len : ℕ) (numbers slots rest : List ℕ) (i : ℕ) : Type 0 where
@@ -65,7 +64,7 @@ module _ (principals atoms : ℕ) {n : ℕ} {text : List ℕ} {len : ℕ} {numbe
 
   pub form_stops : {X : List Row → List ℕ → Type 0} (j : ℕ) → q.answer ≡ RowLine.Refused j → (x : Returned)
       → x ≡ answer_of (refused_at form_line j (form_at i) s)
-      → (Section.Refused x ≡ sectionOf (length text) (many (form_item principals atoms) n [] text)) ×
+      → (Section.Refused x ≡ section_of (length text) (many (form_item principals atoms) n [] text)) ×
       ((rows : List Row) (over : List ℕ) → many (form_item principals atoms) n [] text ≡ ok rows over → X rows over)
   form_stops j e x d =
       turn_stops form_entry (form_item principals atoms) n text k h (refused_at form_line j (form_at i) s)

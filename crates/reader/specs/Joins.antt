@@ -14,7 +14,7 @@ use Rattle.scope.specs.File.Refusals.{demand, count_refusal, clauses_refusal, st
 use Rattle.scope.specs.File.Text.{clauses_line, clause_line, goal_line, steps_line}
 use Rattle.scope.specs.Call.Tables.{form_entry, policy_entry, step_entry, table, unpack}
 use Rattle.scope.specs.File.Reader.{form_item, clause_item, step_item}
-use Rattle.common.specs.Answers.{answerIs}
+use Rattle.common.specs.Answers.{answer_is}
 use Rattle.classes.specs.Class.{goal_in, policy_in, class_table}
 use Rattle.classes.specs.Rows.{unpack_length}
 use Rattle.classes.specs.Laws.{goal_at_lem, policy_at}
@@ -23,14 +23,13 @@ use Rattle.common.specs.declared.Counts.{Counts}
 use Rattle.common.specs.declared.Answer.{Answer as Returned}
 use Rattle.refusals.specs.Rows.{class_refusal}
 use Rattle.reader.specs.Sections.{Counted, Formulas, PolicyRead, head_part, formulas_part, policy_part, steps_part, classed_item}
-use Rattle.reader.specs.Answers.{refused_at, numberLineOf, sectionOf, headCounts, formulasCounts, policyCounts, stepsCounts, part_of}
+use Rattle.reader.specs.Answers.{refused_at, number_line_of, section_of, head_counts, formulas_counts, policy_counts, steps_counts, part_of}
 use Rattle.reader.specs.Lines.{number_ok, number_bad}
 use Rattle.reader.specs.Many.{Ends, line_ends, many_ends, many_length, tail_length}
 use Rattle.reader.specs.Turns.{rest_short}
 use Rattle.reader.specs.Whole.{head_ends}
 use Rattle.reader.specs.Got.{part_from, part_is, SectionGot, section_got, section_lost, SectionKept, PartGot, part_got, part_lost, same_things, part_read}
 use Rattle.reader.specs.declared.NumberLine.{NumberLine}
-use Rattle.reader.specs.declared.NumberLine.TheVariants as NumberLine
 use Rattle.reader.specs.declared.Section.TheVariants as Section
 use Rattle.reader.specs.declared.Part.TheVariants as Part
 
@@ -61,14 +60,14 @@ module _ (s : List ℕ) where
   unfolding formulas_part ◌>>=◌ and_then
   formulas_whole h t forms rest e f = rw e (rw f refl)
 
-  pub formulas_stopped : (x : Returned) → part_of headCounts (length s) (head_part s) ≡ Part.Refused x → formulas_part s ≡ bad (answerIs x)
-  formulas_stopped x e = formulas_at_head (answerIs x) (part_lost headCounts (length s) (head_part s) x e)
+  pub formulas_stopped : (x : Returned) → part_of head_counts (length s) (head_part s) ≡ Part.Refused x → formulas_part s ≡ bad (answer_is x)
+  formulas_stopped x e = formulas_at_head (answer_is x) (part_lost head_counts (length s) (head_part s) x e)
 
 -- The three counts as the code has them.
 pub record HeadKept (s : List ℕ) : Type 0 where
   pub counts : Counts
   pub at : ℕ
-  pub is : part_of headCounts (length s) (head_part s) ≡ Part.Read counts at
+  pub is : part_of head_counts (length s) (head_part s) ≡ Part.Read counts at
 
 abbrev pub behind_head : {s : List ℕ} → HeadKept s → List ℕ
 behind_head {s} k = part_from k.at s
@@ -82,22 +81,22 @@ forms_read k = forms_in k.counts (behind_head k)
 
 module _ {s : List ℕ} (k : HeadKept s) where
   -- What the code has of them is what the definition reads.
-  head_read : PartGot headCounts (length s) (head_part s) k.counts k.at
-  head_read = part_got headCounts (length s) (head_part s) k.counts k.at k.is
+  head_read : PartGot head_counts (length s) (head_part s) k.counts k.at
+  head_read = part_got head_counts (length s) (head_part s) k.counts k.at k.is
 
   second : behind_head k ≡ head_read.rest
   second = part_is head_part head_ends s head_read.thing head_read.rest k.at head_read.is head_read.place
 
-  same_forms : forms_read k ≡ forms_in (headCounts head_read.thing) head_read.rest
+  same_forms : forms_read k ≡ forms_in (head_counts head_read.thing) head_read.rest
   same_forms = λ i. forms_in (head_read.counted i) (second i)
 
   pub head_place : k.at ≤ length s
   head_place = omega (arith, head_read.place)
 
-  pub forms_stopped : (x : Returned) → sectionOf (length (behind_head k)) (forms_read k) ≡ Section.Refused x → formulas_part s ≡ bad
-      (answerIs x)
+  pub forms_stopped : (x : Returned) → section_of (length (behind_head k)) (forms_read k) ≡ Section.Refused x → formulas_part s ≡ bad
+      (answer_is x)
   forms_stopped x m =
-      formulas_at_forms s head_read.thing head_read.rest (answerIs x) head_read.is
+      formulas_at_forms s head_read.thing head_read.rest (answer_is x) head_read.is
       (sym same_forms ∙ section_lost (length (behind_head k)) (forms_read k) x m)
 
   module _ (m : SectionKept form_entry (length (behind_head k)) (forms_read k)) where
@@ -129,15 +128,15 @@ module _ {s : List ℕ} (k : HeadKept s) where
         sym (ap (λ (c : Counts). c.formulas) head_read.counted) ∙
         sym (many_length (form_item k.counts.principals k.counts.atoms) k.counts.formulas [] (behind_head k) forms_got.things forms_got.rest forms_got.is)
 
-    forms_counted : k.counts ≡ formulasCounts joined
+    forms_counted : k.counts ≡ formulas_counts joined
     forms_counted =
         head_read.counted ∙
         (λ i. record { version = 0; logic = 0; principals = head_read.thing.principals; atoms = head_read.thing.atoms; formulas = many_forms i; policy = 0; goal = 0; steps = 0 })
 
-    pub forms_joined : (Part.Read k.counts (k.at + m.at) ≡ part_of formulasCounts (length s) (formulas_part s)) ×
+    pub forms_joined : (Part.Read k.counts (k.at + m.at) ≡ part_of formulas_counts (length s) (formulas_part s)) ×
         ((f : Formulas) (rest : List ℕ) → formulas_part s ≡ ok f rest → m.numbers ≡ table form_entry m.len f.forms)
     forms_joined = (
-      part_read formulasCounts (length s) (formulas_part s) k.counts (k.at + m.at) joined forms_got.rest forms_are forms_counted forms_taken,
+      part_read formulas_counts (length s) (formulas_part s) k.counts (k.at + m.at) joined forms_got.rest forms_are forms_counted forms_taken,
       λ f rest g. m.stored forms_got.things forms_got.rest forms_got.is ∙ ap (λ h. table form_entry m.len h.forms)
           (same_things (formulas_part s) joined f forms_got.rest rest forms_are g),
     )
@@ -200,7 +199,7 @@ abbrev rows : List ℕ → ℕ → List Row
 rows numbers n = unpack form_entry n numbers
 
 pub clauses_stopped : (numbers : List ℕ) (n : ℕ) (s : List ℕ) (k : ℕ)
-    → numberLineOf (shaped_as (count_refusal 0 most_policy_lines) (number (value_of (bytes "clauses=") s))) ≡ NumberLine.Refused k
+    → number_line_of (shaped_as (count_refusal 0 most_policy_lines) (number (value_of (bytes "clauses=") s))) ≡ NumberLine.Refused k
     → policy_part (unpack form_entry n numbers) s ≡ bad (refused_at clauses_line k (clauses_at n) s)
 clauses_stopped numbers n s k e =
     policy_at_count (rows numbers n) s (refused_at clauses_line k (clauses_at n) s)
@@ -211,7 +210,7 @@ clauses_stopped numbers n s k e =
 pub record ClausesKept (numbers : List ℕ) (n : ℕ) (s : List ℕ) : Type 0 where
   pub small : n ≤ most_formulas
   pub count : ℕ
-  pub counted : numberLineOf (shaped_as (count_refusal 0 most_policy_lines) (number (value_of (bytes "clauses=") s))) ≡ NumberLine.Number count
+  pub counted : number_line_of (shaped_as (count_refusal 0 most_policy_lines) (number (value_of (bytes "clauses=") s))) ≡ NumberLine.Number count
   pub rest : List ℕ
   pub behind : rest ≡ rest_of s
   pub classes : List ℕ
@@ -227,10 +226,10 @@ module _ {numbers : List ℕ} {n : ℕ} {s : List ℕ} (k : ClausesKept numbers 
   same_items : lines_read k ≡ many (clause_item (rows numbers n)) k.count [] k.rest
   same_items = ap (λ item. many item k.count [] k.rest) (clause_items numbers n k.small k.classes k.tabled)
 
-  pub lines_stopped : (x : Returned) → sectionOf (length k.rest) (lines_read k) ≡ Section.Refused x → policy_part (unpack form_entry n numbers) s
-      ≡ bad (answerIs x)
+  pub lines_stopped : (x : Returned) → section_of (length k.rest) (lines_read k) ≡ Section.Refused x → policy_part (unpack form_entry n numbers) s
+      ≡ bad (answer_is x)
   lines_stopped x m =
-      policy_at_clauses (rows numbers n) s k.count k.rest (answerIs x) first
+      policy_at_clauses (rows numbers n) s k.count k.rest (answer_is x) first
       (sym same_items ∙ section_lost (length k.rest) (lines_read k) x m)
 
   module _ (m : SectionKept policy_entry (length k.rest) (lines_read k)) where
@@ -245,13 +244,13 @@ module _ {numbers : List ℕ} {n : ℕ} {s : List ℕ} (k : ClausesKept numbers 
     many_lines = many_length (classed_item k.classes n) k.count [] k.rest lines_got.things lines_got.rest lines_got.is
 
     abbrev goal_answer : List ℕ → NumberLine
-    goal_answer t = numberLineOf (shaped_as (class_refusal goal_in k.classes n) (number (value_of (bytes "goal=") t)))
+    goal_answer t = number_line_of (shaped_as (class_refusal goal_in k.classes n) (number (value_of (bytes "goal=") t)))
 
     -- The goal's line as the definition asks for it.
     goal_asked : (a : NumberLine) → goal_answer (part_from m.at k.rest) ≡ a
-        → numberLineOf (shaped_as (goal_refusal (rows numbers n)) (number (value_of (bytes "goal=") lines_got.rest))) ≡ a
+        → number_line_of (shaped_as (goal_refusal (rows numbers n)) (number (value_of (bytes "goal=") lines_got.rest))) ≡ a
     goal_asked a e =
-        sym (λ i. numberLineOf
+        sym (λ i. number_line_of
         (shaped_as (goal_test numbers n k.small k.classes k.tabled i) (number (value_of (bytes "goal=") (third i))))) ∙ e
 
     pub lines_place : m.at ≤ length k.rest
@@ -292,11 +291,11 @@ module _ {numbers : List ℕ} {n : ℕ} {s : List ℕ} (k : ClausesKept numbers 
           record { version = c.version; logic = c.logic; principals = c.principals; atoms = c.atoms; formulas = c.formulas; policy = k.count; goal = goal; steps = 0 }
 
       pub policy_joined : (c : Counts) →
-          (Part.Read (policy_counted c) (length s - length rest) ≡ part_of (policyCounts c) (length s) (policy_part (unpack form_entry n numbers) s)) ×
+          (Part.Read (policy_counted c) (length s - length rest) ≡ part_of (policy_counts c) (length s) (policy_part (unpack form_entry n numbers) s)) ×
           ((p : PolicyRead) (over : List ℕ) → policy_part (unpack form_entry n numbers) s ≡ ok p over → m.numbers ≡ table policy_entry m.len
           p.policy)
       policy_joined c = (
-        part_read (policyCounts c) (length s) (policy_part (rows numbers n) s) (policy_counted c) (length s - length rest)
+        part_read (policy_counts c) (length s) (policy_part (rows numbers n) s) (policy_counted c) (length s - length rest)
             record { policy = lines_got.things; goal = goal } rest policy_is
             (λ i. record { version = c.version; logic = c.logic; principals = c.principals; atoms = c.atoms; formulas = c.formulas; policy = sym many_lines i; goal = goal; steps = 0 }) refl,
         λ p over h. m.stored lines_got.things lines_got.rest lines_got.is ∙ ap (λ y. table policy_entry m.len y.policy)
@@ -314,7 +313,7 @@ module _ (formulas clauses : ℕ) (s : List ℕ) where
   unfolding steps_part ◌>>=◌ and_then
   steps_whole c t e = rw e refl
 
-  pub steps_stopped : (k : ℕ) → numberLineOf (shaped_as (count_refusal 1 most_steps) (number (value_of (bytes "steps=") s))) ≡ NumberLine.Refused k
+  pub steps_stopped : (k : ℕ) → number_line_of (shaped_as (count_refusal 1 most_steps) (number (value_of (bytes "steps=") s))) ≡ NumberLine.Refused k
       → steps_part formulas clauses s ≡ bad (refused_at steps_line k (steps_at formulas clauses) s)
   steps_stopped k e = steps_at_count (refused_at steps_line k (steps_at formulas clauses) s)
       (number_bad "steps=" steps_refusal (steps_at formulas clauses) s k e)
@@ -322,7 +321,7 @@ module _ (formulas clauses : ℕ) (s : List ℕ) where
 -- The count of steps and the text behind it, as the code has them.
 pub record StepsCounted (formulas clauses : ℕ) (s : List ℕ) : Type 0 where
   pub count : ℕ
-  pub counted : numberLineOf (shaped_as (count_refusal 1 most_steps) (number (value_of (bytes "steps=") s))) ≡ NumberLine.Number count
+  pub counted : number_line_of (shaped_as (count_refusal 1 most_steps) (number (value_of (bytes "steps=") s))) ≡ NumberLine.Number count
   pub rest : List ℕ
   pub behind : rest ≡ rest_of s
 
@@ -334,8 +333,8 @@ module _ {formulas clauses : ℕ} {s : List ℕ} (k : StepsCounted formulas clau
   whole = steps_whole formulas clauses s k.count k.rest
       (number_ok "steps=" steps_refusal (steps_at formulas clauses) s k.rest k.count k.behind k.counted)
 
-  pub rows_stopped : (x : Returned) → sectionOf (length k.rest) (rows_read k) ≡ Section.Refused x → steps_part formulas clauses s ≡ bad
-      (answerIs x)
+  pub rows_stopped : (x : Returned) → section_of (length k.rest) (rows_read k) ≡ Section.Refused x → steps_part formulas clauses s ≡ bad
+      (answer_is x)
   rows_stopped x m = whole ∙ section_lost (length k.rest) (rows_read k) x m
 
   module _ (m : SectionKept step_entry (length k.rest) (rows_read k)) where
@@ -363,10 +362,10 @@ module _ {formulas clauses : ℕ} {s : List ℕ} (k : StepsCounted formulas clau
     many_rows = sym (many_length (step_item formulas clauses) k.count [] k.rest rows_got.things rows_got.rest rows_got.is)
 
     pub steps_joined : (c : Counts) →
-        (Part.Read (steps_counted c) (length s - length k.rest + m.at) ≡ part_of (stepsCounts c) (length s) (steps_part formulas clauses s)) ×
+        (Part.Read (steps_counted c) (length s - length k.rest + m.at) ≡ part_of (steps_counts c) (length s) (steps_part formulas clauses s)) ×
         ((rows : List Row) (rest : List ℕ) → steps_part formulas clauses s ≡ ok rows rest → m.numbers ≡ table step_entry m.len rows)
     steps_joined c = (
-      part_read (stepsCounts c) (length s) (steps_part formulas clauses s) (steps_counted c) (length s - length k.rest + m.at) rows_got.things rows_got.rest
+      part_read (steps_counts c) (length s) (steps_part formulas clauses s) (steps_counted c) (length s - length k.rest + m.at) rows_got.things rows_got.rest
           (whole ∙ rows_got.is)
           (λ i. record { version = c.version; logic = c.logic; principals = c.principals; atoms = c.atoms; formulas = c.formulas; policy = c.policy; goal = c.goal; steps = many_rows i }) rows_taken,
       λ rows rest g. m.stored rows_got.things rows_got.rest rows_got.is ∙ ap (table step_entry m.len)

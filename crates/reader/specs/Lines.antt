@@ -6,7 +6,6 @@ use Rattle.std.proofs.Math.Path.{refl, ap, sym}
 use Rattle.std.proofs.Math.Bool.{true, false}
 use Rattle.std.proofs.Math.Option.{Option, none, some}
 use Rattle.std.proofs.lemmas.Bool.{lt-leb}
-use Rattle.scope.specs.Call.Answer.{column_for}
 use Rattle.scope.specs.Tools.Tests.{never}
 use Rattle.scope.specs.Logic.Form.{both}
 use Rattle.scope.specs.Logic.Facts.{Logic}
@@ -22,7 +21,7 @@ use Rattle.lines.specs.Values.{Behind, rest_behind}
 use Rattle.lines.specs.Words.{logic_place}
 use Rattle.trip.specs.Words.{word_found}
 use Rattle.scope.specs.File.Stops.{number_stop}
-use Rattle.lines.specs.Answers.{numberAnswer, rowAnswer}
+use Rattle.lines.specs.Answers.{number_answer, row_answer}
 use Rattle.lines.specs.Operands.{number_some, number_none}
 use Rattle.lines.specs.declared.Number.{Number}
 use Rattle.lines.specs.declared.Number.TheVariants as NumberValue
@@ -32,9 +31,8 @@ use Rattle.steps.specs.declared.Step.{Step}
 use Rattle.steps.specs.Steps.{pair, step_from, pair_of, pair_back}
 use Rattle.refusals.specs.Rows.{row, step_small, class_refusal}
 use Rattle.reader.specs.Sections.{below_refusal}
-use Rattle.reader.specs.Answers.{refused_at, numberLineOf, logicLineOf, rowLineOf, stepLineOf}
+use Rattle.reader.specs.Answers.{refused_at, number_line_of, logic_line_of, row_line_of, step_line_of}
 use Rattle.reader.specs.declared.NumberLine.{NumberLine}
-use Rattle.reader.specs.declared.NumberLine.TheVariants as NumberLine
 use Rattle.reader.specs.declared.RowLine.TheVariants as RowLine
 use Rattle.reader.specs.declared.StepLine.TheVariants as StepLine
 
@@ -52,48 +50,48 @@ module _ {A : Type 0} (refusal : A → ℕ) (o : Option A) where
   unfolding shaped_as or_refused
   judged_val a e r = rw e (rw r refl)
 
-pub number_out : (v : Value ℕ) (k : ℕ) → v ≡ out k → NumberLine.Refused k ≡ numberLineOf v
-unfolding numberLineOf
+pub number_out : (v : Value ℕ) (k : ℕ) → v ≡ out k → NumberLine.Refused k ≡ number_line_of v
+unfolding number_line_of
 number_out v k e = rw e refl
 
-pub number_val : (v : Value ℕ) (n : ℕ) → v ≡ val n → NumberLine.Number n ≡ numberLineOf v
-unfolding numberLineOf
+pub number_val : (v : Value ℕ) (n : ℕ) → v ≡ val n → NumberLine.Number n ≡ number_line_of v
+unfolding number_line_of
 number_val v n e = rw e refl
 
-pub row_out : (v : Value Row) (k : ℕ) → v ≡ out k → RowLine.Refused k ≡ rowLineOf v
-unfolding rowLineOf
+pub row_out : (v : Value Row) (k : ℕ) → v ≡ out k → RowLine.Refused k ≡ row_line_of v
+unfolding row_line_of
 row_out v k e = rw e refl
 
-pub row_val : (v : Value Row) (k l r : ℕ) → v ≡ val (row k l r) → RowLine.Row k l r ≡ rowLineOf v
-unfolding rowLineOf
+pub row_val : (v : Value Row) (k l r : ℕ) → v ≡ val (row k l r) → RowLine.Row k l r ≡ row_line_of v
+unfolding row_line_of
 row_val v k l r e = rw e refl
 
-pub step_out : (v : Value Row) (k : ℕ) → v ≡ out k → StepLine.Refused k ≡ stepLineOf v
-unfolding stepLineOf
+pub step_out : (v : Value Row) (k : ℕ) → v ≡ out k → StepLine.Refused k ≡ step_line_of v
+unfolding step_line_of
 step_out v k e = rw e refl
 
-pub step_val : (v : Value Row) (k l r : ℕ) → v ≡ val (row k l r) → StepLine.Step (step_from k l) ≡ stepLineOf v
-unfolding stepLineOf
+pub step_val : (v : Value Row) (k l r : ℕ) → v ≡ val (row k l r) → StepLine.Step (step_from k l) ≡ step_line_of v
+unfolding step_line_of
 step_val v k l r e = rw e refl
 
 -- And back: what an answer says of the line.
-pub out_number : (v : Value ℕ) (k : ℕ) → numberLineOf v ≡ NumberLine.Refused k → v ≡ out k
-unfolding numberLineOf
+pub out_number : (v : Value ℕ) (k : ℕ) → number_line_of v ≡ NumberLine.Refused k → v ≡ out k
+unfolding number_line_of
 out_number (val n) k e = never cc
 out_number (out j) k e = cc
 
-pub val_number : (v : Value ℕ) (n : ℕ) → numberLineOf v ≡ NumberLine.Number n → v ≡ val n
-unfolding numberLineOf
+pub val_number : (v : Value ℕ) (n : ℕ) → number_line_of v ≡ NumberLine.Number n → v ≡ val n
+unfolding number_line_of
 val_number (val m) n e = cc
 val_number (out j) n e = never cc
 
-pub out_row : (v : Value Row) (k : ℕ) → rowLineOf v ≡ RowLine.Refused k → v ≡ out k
-unfolding rowLineOf
+pub out_row : (v : Value Row) (k : ℕ) → row_line_of v ≡ RowLine.Refused k → v ≡ out k
+unfolding row_line_of
 out_row (val n) k e = never cc
 out_row (out j) k e = cc
 
-pub val_row : (v : Value Row) (k l r : ℕ) → rowLineOf v ≡ RowLine.Row k l r → v ≡ val (row k l r)
-unfolding rowLineOf
+pub val_row : (v : Value Row) (k l r : ℕ) → row_line_of v ≡ RowLine.Row k l r → v ≡ val (row k l r)
+unfolding row_line_of
 val_row (val m) k l r e =
     let a : m.kind ≡ k = cc in
     let b : m.left ≡ l = cc in
@@ -101,8 +99,8 @@ val_row (val m) k l r e =
     ap val (λ i. record { kind = a i; left = b i; right = c i })
 val_row (out j) k l r e = never cc
 
-pub out_step : (v : Value Row) (k : ℕ) → stepLineOf v ≡ StepLine.Refused k → v ≡ out k
-unfolding stepLineOf
+pub out_step : (v : Value Row) (k : ℕ) → step_line_of v ≡ StepLine.Refused k → v ≡ out k
+unfolding step_line_of
 out_step (val n) k e = never cc
 out_step (out j) k e = cc
 
@@ -113,12 +111,12 @@ pub record StepRow (o : Option Row) (x : Step) : Type 0 where
   pub is : shaped_as step_refusal o ≡ val (row kind number 0)
   pub stored : pair_of x ≡ pair kind number
 
-pub step_row_lem : (o : Option Row) (x : Step) → stepLineOf (shaped_as step_refusal o) ≡ StepLine.Step x → StepRow o x
-unfolding stepLineOf shaped_as or_refused
+pub step_row_lem : (o : Option Row) (x : Step) → step_line_of (shaped_as step_refusal o) ≡ StepLine.Step x → StepRow o x
+unfolding step_line_of shaped_as or_refused
 step_row_lem none x e = never cc
 step_row_lem (some r) x e = go (step_refusal r) refl e
   where
-    go : (j : ℕ) → step_refusal r ≡ j → stepLineOf (or_refused j r) ≡ StepLine.Step x → StepRow (some r) x
+    go : (j : ℕ) → step_refusal r ≡ j → step_line_of (or_refused j r) ≡ StepLine.Step x → StepRow (some r) x
     go zero z e =
         let small = step_small r.left r.right r.kind z in
         let f : step_from r.kind r.left ≡ x = cc in
@@ -172,10 +170,10 @@ unfolding logic_word kind_from logic_kinds same logic_in
 no_logic = refl
 
 abbrev pub logic_asked : List ℕ → NumberLine
-logic_asked v = logicLineOf (shaped_as (λ l. 0) (logic_word v))
+logic_asked v = logic_line_of (shaped_as (λ l. 0) (logic_word v))
 
 pub logic_none : (v : List ℕ) → logic_place (kind_from 0 logic_kinds v) ≡ 2 → NumberLine.Refused 2 ≡ logic_asked v
-unfolding logic_word logic_in logic_place logicLineOf shaped_as
+unfolding logic_word logic_in logic_place logic_line_of shaped_as
 logic_none v e = go (kind_from 0 logic_kinds v) refl e
   where
     go : (x : Option ℕ) → kind_from 0 logic_kinds v ≡ x → logic_place x ≡ 2 → NumberLine.Refused 2 ≡ logic_asked v
@@ -186,7 +184,7 @@ logic_none v e = go (kind_from 0 logic_kinds v) refl e
         absurd (omega arith)
 
 pub logic_some : (v : List ℕ) (n : ℕ) → n ≡ logic_place (kind_from 0 logic_kinds v) → (n ≡ 2 → ⊥) → NumberLine.Number n ≡ logic_asked v
-unfolding logic_word logic_in logic_of logic_place logicLineOf shaped_as or_refused
+unfolding logic_word logic_in logic_of logic_place logic_line_of shaped_as or_refused
 logic_some v n e h = go (kind_from 0 logic_kinds v) refl e
   where
     told : (m : ℕ) → m < 2 → m ≡ logic_number (logic_of m)
@@ -203,11 +201,11 @@ logic_some v n e h = go (kind_from 0 logic_kinds v) refl e
 
 pub logic_bad : (i k : ℕ) (s : List ℕ) → logic_asked (value_of (bytes "logic=") s) ≡ NumberLine.Refused k →
     line logic_line (λ l. 0) i s ≡ bad (refused_at logic_line k i s)
-unfolding logicLineOf
+unfolding logic_line_of
 logic_bad i k s e =
     line_bad logic_line (λ l. 0) s (value_of (bytes "logic=") s) refl no_logic i k (back (shaped_as (λ l. 0) (logic_word (value_of (bytes "logic=") s))) e)
   where
-    back : (v : Value Logic) → logicLineOf v ≡ NumberLine.Refused k → v ≡ out k
+    back : (v : Value Logic) → logic_line_of v ≡ NumberLine.Refused k → v ≡ out k
     back (val l) e = never cc
     back (out j) e = cc
 
@@ -217,33 +215,33 @@ pub record LogicRead (i n : ℕ) (s rest : List ℕ) : Type 0 where
   pub is : line logic_line (λ l. 0) i s ≡ ok logic rest
 
 pub logic_ok : (i n : ℕ) (s rest : List ℕ) → rest ≡ rest_of s → logic_asked (value_of (bytes "logic=") s) ≡ NumberLine.Number n → LogicRead i n s rest
-unfolding logicLineOf
+unfolding logic_line_of
 logic_ok i n s rest r e = go (shaped_as (λ l. 0) (logic_word (value_of (bytes "logic=") s))) refl e
   where
-    go : (v : Value Logic) → shaped_as (λ l. 0) (logic_word (value_of (bytes "logic=") s)) ≡ v → logicLineOf v ≡ NumberLine.Number n → LogicRead i n s rest
+    go : (v : Value Logic) → shaped_as (λ l. 0) (logic_word (value_of (bytes "logic=") s)) ≡ v → logic_line_of v ≡ NumberLine.Number n → LogicRead i n s rest
     go (val l) d h =
         let z : logic_number l ≡ n = cc in
         record { logic = l; number = sym z; is = line_ok logic_line (λ l. 0) s (value_of (bytes "logic=") s) refl no_logic i l rest r d }
     go (out j) d h = never cc
 
 module _ (key : String) (refusal : ℕ → ℕ) (s v : List ℕ) (part : v ≡ value_of (bytes key) s) where
-  pub value_ok : (i : ℕ) (rest : List ℕ) (n : ℕ) → rest ≡ rest_of s → numberLineOf (shaped_as refusal (number v)) ≡ NumberLine.Number n
+  pub value_ok : (i : ℕ) (rest : List ℕ) (n : ℕ) → rest ≡ rest_of s → number_line_of (shaped_as refusal (number v)) ≡ NumberLine.Number n
       → line (number_line key) refusal i s ≡ ok n rest
   value_ok i rest n r e = line_ok (number_line key) refusal s v part no_number i n rest r (val_number (shaped_as refusal (number v)) n e)
 
-  pub value_bad : (i k : ℕ) → numberLineOf (shaped_as refusal (number v)) ≡ NumberLine.Refused k
+  pub value_bad : (i k : ℕ) → number_line_of (shaped_as refusal (number v)) ≡ NumberLine.Refused k
       → line (number_line key) refusal i s ≡ bad (refused_at (number_line key) k i s)
   value_bad i k e = line_bad (number_line key) refusal s v part no_number i k (out_number (shaped_as refusal (number v)) k e)
 
-  pub value_behind : (n : ℕ) → numberLineOf (shaped_as refusal (number v)) ≡ NumberLine.Number n → Behind s (length v + (length (bytes key) + 1))
+  pub value_behind : (n : ℕ) → number_line_of (shaped_as refusal (number v)) ≡ NumberLine.Number n → Behind s (length v + (length (bytes key) + 1))
   value_behind n e = line_behind (number_line key) refusal s v part no_number n (val_number (shaped_as refusal (number v)) n e)
 
 pub number_ok : (key : String) (refusal : ℕ → ℕ) (i : ℕ) (s rest : List ℕ) (n : ℕ) → rest ≡ rest_of s
-    → numberLineOf (shaped_as refusal (number (value_of (bytes key) s))) ≡ NumberLine.Number n → line (number_line key) refusal i s ≡ ok n rest
+    → number_line_of (shaped_as refusal (number (value_of (bytes key) s))) ≡ NumberLine.Number n → line (number_line key) refusal i s ≡ ok n rest
 number_ok key refusal i s rest n r e = value_ok key refusal s (value_of (bytes key) s) refl i rest n r e
 
 pub number_bad : (key : String) (refusal : ℕ → ℕ) (i : ℕ) (s : List ℕ) (k : ℕ)
-    → numberLineOf (shaped_as refusal (number (value_of (bytes key) s))) ≡ NumberLine.Refused k
+    → number_line_of (shaped_as refusal (number (value_of (bytes key) s))) ≡ NumberLine.Refused k
     → line (number_line key) refusal i s ≡ bad (refused_at (number_line key) k i s)
 number_bad key refusal i s k e = value_bad key refusal s (value_of (bytes key) s) refl i k e
 
@@ -280,67 +278,67 @@ unfolding below_refusal demand
 below_is n f h = rw (lt-ltb f n h) refl
 
 -- A count that is let through is within its bounds.
-pub count_most : (least most : ℕ) (o : Option ℕ) (n : ℕ) → numberLineOf (shaped_as (count_refusal least most) o) ≡ NumberLine.Number n → n ≤ most
-unfolding numberLineOf shaped_as or_refused count_refusal both demand
+pub count_most : (least most : ℕ) (o : Option ℕ) (n : ℕ) → number_line_of (shaped_as (count_refusal least most) o) ≡ NumberLine.Number n → n ≤ most
+unfolding number_line_of shaped_as or_refused count_refusal both demand
 count_most least most none n e = never cc
 count_most least most (some m) n e = go (leb least m) (leb m most) refl refl e
   where
-    go : (a b : Bool) → leb least m ≡ a → leb m most ≡ b → numberLineOf (or_refused (demand (both a b) 3 0) m) ≡ NumberLine.Number n → n ≤ most
+    go : (a b : Bool) → leb least m ≡ a → leb m most ≡ b → number_line_of (or_refused (demand (both a b) 3 0) m) ≡ NumberLine.Number n → n ≤ most
     go true true p q e = let f : m ≡ n = cc in omega (arith, leb-true m most q)
     go true false p q e = never cc
     go false b p q e = never cc
 
 -- The class is asked of a number that is a formula's.
 module _ (test : ℕ → Bool) (classes : List ℕ) (n : ℕ) (o : Option ℕ) where
-  pub class_before : (k : ℕ) → numberLineOf (shaped_as (below_refusal n) o) ≡ NumberLine.Refused k → NumberLine.Refused k ≡ numberLineOf
+  pub class_before : (k : ℕ) → number_line_of (shaped_as (below_refusal n) o) ≡ NumberLine.Refused k → NumberLine.Refused k ≡ number_line_of
       (shaped_as (class_refusal test classes n) o)
-  unfolding numberLineOf shaped_as or_refused below_refusal class_refusal demand
+  unfolding number_line_of shaped_as or_refused below_refusal class_refusal demand
   class_before = go o
     where
-      go : (o : Option ℕ) (k : ℕ) → numberLineOf (shaped_as (below_refusal n) o) ≡ NumberLine.Refused k → NumberLine.Refused k ≡ numberLineOf
+      go : (o : Option ℕ) (k : ℕ) → number_line_of (shaped_as (below_refusal n) o) ≡ NumberLine.Refused k → NumberLine.Refused k ≡ number_line_of
           (shaped_as (class_refusal test classes n) o)
       go none k e = sym e
       go (some f) k e = low (ltb f n) e
         where
-          low : (b : Bool) → numberLineOf (or_refused (demand b 3 0) f) ≡ NumberLine.Refused k → NumberLine.Refused k ≡ numberLineOf
+          low : (b : Bool) → number_line_of (or_refused (demand b 3 0) f) ≡ NumberLine.Refused k → NumberLine.Refused k ≡ number_line_of
               (or_refused (demand b 3 (demand (test (get_or classes f 0)) 5 0)) f)
           low true e = never cc
           low false e = sym e
 
-  class_after : (f : ℕ) → numberLineOf (shaped_as (below_refusal n) o) ≡ NumberLine.Number f → shaped_as (class_refusal test classes n) o
+  class_after : (f : ℕ) → number_line_of (shaped_as (below_refusal n) o) ≡ NumberLine.Number f → shaped_as (class_refusal test classes n) o
       ≡ or_refused (demand (test (get_or classes f 0)) 5 0) f
-  unfolding numberLineOf shaped_as or_refused below_refusal class_refusal demand
+  unfolding number_line_of shaped_as or_refused below_refusal class_refusal demand
   class_after = go o
     where
-      go : (o : Option ℕ) (f : ℕ) → numberLineOf (shaped_as (below_refusal n) o) ≡ NumberLine.Number f → shaped_as (class_refusal test classes n) o
+      go : (o : Option ℕ) (f : ℕ) → number_line_of (shaped_as (below_refusal n) o) ≡ NumberLine.Number f → shaped_as (class_refusal test classes n) o
           ≡ or_refused (demand (test (get_or classes f 0)) 5 0) f
       go none f e = never cc
       go (some m) f e = low (ltb m n) e
         where
-          low : (b : Bool) → numberLineOf (or_refused (demand b 3 0) m) ≡ NumberLine.Number f → or_refused
+          low : (b : Bool) → number_line_of (or_refused (demand b 3 0) m) ≡ NumberLine.Number f → or_refused
               (demand b 3 (demand (test (get_or classes m 0)) 5 0)) m ≡ or_refused (demand (test (get_or classes f 0)) 5 0) f
           low true e = let p : m ≡ f = cc in ap (λ x. or_refused (demand (test (get_or classes x 0)) 5 0) x) p
           low false e = never cc
 
   -- The class of a formula that is asked for, and another.
-  pub class_met : (f : ℕ) → numberLineOf (shaped_as (below_refusal n) o) ≡ NumberLine.Number f → test (get_or classes f 0) ≡ true →
-      NumberLine.Number f ≡ numberLineOf (shaped_as (class_refusal test classes n) o)
+  pub class_met : (f : ℕ) → number_line_of (shaped_as (below_refusal n) o) ≡ NumberLine.Number f → test (get_or classes f 0) ≡ true →
+      NumberLine.Number f ≡ number_line_of (shaped_as (class_refusal test classes n) o)
   unfolding or_refused demand
   class_met f e t = number_val (shaped_as (class_refusal test classes n) o) f (class_after f e ∙ rw t refl)
 
-  pub class_unmet : (f : ℕ) → numberLineOf (shaped_as (below_refusal n) o) ≡ NumberLine.Number f → test (get_or classes f 0) ≡ false →
-      NumberLine.Refused 5 ≡ numberLineOf (shaped_as (class_refusal test classes n) o)
+  pub class_unmet : (f : ℕ) → number_line_of (shaped_as (below_refusal n) o) ≡ NumberLine.Number f → test (get_or classes f 0) ≡ false →
+      NumberLine.Refused 5 ≡ number_line_of (shaped_as (class_refusal test classes n) o)
   unfolding or_refused demand
   class_unmet f e t = number_out (shaped_as (class_refusal test classes n) o) 5 (class_after f e ∙ rw t refl)
 
 -- What the answer about a value says of its row.
-pub row_none : (o : Option Row) → rowAnswer o ≡ RowValue.Bad → o ≡ none
-unfolding rowAnswer
+pub row_none : (o : Option Row) → row_answer o ≡ RowValue.Bad → o ≡ none
+unfolding row_answer
 row_none none e = refl
 row_none (some r) e = never cc
 
-pub row_some : (o : Option Row) (k l r : ℕ) → rowAnswer o ≡ RowValue.Items k l r → o ≡ some (row k l r)
-unfolding rowAnswer
+pub row_some : (o : Option Row) (k l r : ℕ) → row_answer o ≡ RowValue.Items k l r → o ≡ some (row k l r)
+unfolding row_answer
 row_some none k l r e = never cc
 row_some (some m) k l r e =
     let a : m.kind ≡ k = cc in
@@ -355,8 +353,8 @@ refused_row refusal o a (suc k) e r n = judged_out refusal o a k e (sym r)
 
 -- A number line and a row line from the value that was found and the answer about it.
 module _ (refusal : ℕ → ℕ) (value whole : List ℕ) (part : value ≡ whole) (r : Number)
-    (about : r ≡ numberAnswer (number value) (number_stop value)) where
-  pub number_lost : (at : ℕ) → r ≡ NumberValue.Bad at → NumberLine.Refused 2 ≡ numberLineOf (shaped_as refusal (number whole))
+    (about : r ≡ number_answer (number value) (number_stop value)) where
+  pub number_lost : (at : ℕ) → r ≡ NumberValue.Bad at → NumberLine.Refused 2 ≡ number_line_of (shaped_as refusal (number whole))
   number_lost at e =
       number_out (shaped_as refusal (number whole)) 2
       (judged_none refusal (number whole) (ap number (sym part) ∙ number_none (number value) (number_stop value) at (sym about ∙ e)))
@@ -365,13 +363,13 @@ module _ (refusal : ℕ → ℕ) (value whole : List ℕ) (part : value ≡ whol
     written : number whole ≡ some n
     written = ap number (sym part) ∙ number_some (number value) (number_stop value) n (sym about ∙ e)
 
-    pub number_turned : (k : ℕ) → refusal n ≡ suc k → NumberLine.Refused (suc k) ≡ numberLineOf (shaped_as refusal (number whole))
+    pub number_turned : (k : ℕ) → refusal n ≡ suc k → NumberLine.Refused (suc k) ≡ number_line_of (shaped_as refusal (number whole))
     number_turned k z = number_out (shaped_as refusal (number whole)) (suc k) (judged_out refusal (number whole) n k written z)
 
-    pub number_taken : refusal n ≡ 0 → NumberLine.Number n ≡ numberLineOf (shaped_as refusal (number whole))
+    pub number_taken : refusal n ≡ 0 → NumberLine.Number n ≡ number_line_of (shaped_as refusal (number whole))
     number_taken z = number_val (shaped_as refusal (number whole)) n (judged_val refusal (number whole) n written z)
 
-module _ (kinds : List Kind) (refusal : Row → ℕ) (value : List ℕ) (v : RowAnswer) (about : v ≡ rowAnswer (row_in kinds value)) where
+module _ (kinds : List Kind) (refusal : Row → ℕ) (value : List ℕ) (v : RowAnswer) (about : v ≡ row_answer (row_in kinds value)) where
   pub row_lost : v ≡ RowValue.Bad → shaped_as refusal (row_in kinds value) ≡ out 2
   row_lost e = judged_none refusal (row_in kinds value) (row_none (row_in kinds value) (sym about ∙ e))
 

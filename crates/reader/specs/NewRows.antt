@@ -6,7 +6,7 @@ use Rattle.std.proofs.Common.{sym, ◌∙◌}
 use Rattle.std.proofs.Math.Option.{Option, none, some}
 use Rattle.scope.specs.Tools.Tests.{never}
 use Rattle.scope.specs.File.Request.{Row}
-use Rattle.scope.specs.File.Line.{Value, val, out, or_refused, shaped_as}
+use Rattle.scope.specs.File.Line.{val, out, or_refused, shaped_as}
 use Rattle.scope.specs.File.Kinds.{form_kinds}
 use Rattle.scope.specs.File.Refusals.{row_refusal, first_of}
 use Rattle.refusals.specs.Rows.{row}
@@ -16,10 +16,9 @@ use Rattle.numbering.specs.declared.Place.{Place}
 use Rattle.numbering.specs.declared.Place.TheVariants.{Taken, Free}
 use Rattle.numbering.specs.declared.Earlier.{Earlier}
 use Rattle.numbering.specs.declared.Earlier.TheVariants.{At, Nothing}
-use Rattle.reader.specs.Answers.{rowLineOf}
+use Rattle.reader.specs.Answers.{row_line_of}
 use Rattle.reader.specs.Lines.{out_row, val_row, row_out, row_val}
 use Rattle.reader.specs.declared.RowLine.{RowLine}
-use Rattle.reader.specs.declared.RowLine.TheVariants as RowLine
 
 abbrev pub asked_row : ℕ → ℕ → ℕ → List ℕ → List ℕ → Row → ℕ
 asked_row principals atoms i forms slots r =
@@ -75,17 +74,17 @@ module _ (f g : Row → ℕ) (x : Option Row) where
       of none d = never cc
       of (some b) d = go b (f b) refl d
 
-  pub still_refused : (line : RowLine) → line ≡ rowLineOf (shaped_as f x) → (j : ℕ) → line ≡ RowLine.Refused j → line ≡ rowLineOf (shaped_as two x)
+  pub still_refused : (line : RowLine) → line ≡ row_line_of (shaped_as f x) → (j : ℕ) → line ≡ RowLine.Refused j → line ≡ row_line_of (shaped_as two x)
   still_refused line is j e = e ∙ row_out (shaped_as two x) j (first_out j (out_row (shaped_as f x) j (sym is ∙ e)))
 
-  module _ (line : RowLine) (is : line ≡ rowLineOf (shaped_as f x)) (k l r : ℕ) (e : line ≡ RowLine.Row k l r) where
-    pub then_refused : (j : ℕ) → g (row k l r) ≡ suc j → RowLine.Refused (suc j) ≡ rowLineOf (shaped_as two x)
+  module _ (line : RowLine) (is : line ≡ row_line_of (shaped_as f x)) (k l r : ℕ) (e : line ≡ RowLine.Row k l r) where
+    pub then_refused : (j : ℕ) → g (row k l r) ≡ suc j → RowLine.Refused (suc j) ≡ row_line_of (shaped_as two x)
     unfolding or_refused
     then_refused j h =
         row_out (shaped_as two x) (suc j)
         (first_val (row k l r) (val_row (shaped_as f x) k l r (sym is ∙ e)) ∙ ap (λ n. or_refused n (row k l r)) h)
 
-    pub then_taken : g (row k l r) ≡ 0 → RowLine.Row k l r ≡ rowLineOf (shaped_as two x)
+    pub then_taken : g (row k l r) ≡ 0 → RowLine.Row k l r ≡ row_line_of (shaped_as two x)
     unfolding or_refused
     then_taken h =
         row_val (shaped_as two x) k l r

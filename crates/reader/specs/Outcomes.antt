@@ -1,5 +1,5 @@
 -- The outcome of a whole file from the answers about its sections, and of a call from the outcome of the file.
-use Rattle.std.specs.Prelude.{ℕ, ◌+◌, ◌*◌, ◌≤◌, ◌<◌, ◌≡◌, Bool, true, false, length, replicate, leb}
+use Rattle.std.specs.Prelude.{ℕ, ◌*◌, ◌≤◌, ◌<◌, ◌≡◌, Bool, true, false, length, replicate, leb}
 use Rattle.std.proofs.Common.{arith, sym, ◌∙◌}
 use Rattle.std.proofs.Math.Path.{refl, ap}
 use mathlib.Core.List.{List, [], ◌∷◌}
@@ -14,11 +14,11 @@ use Rattle.scope.specs.Limits.{most_bytes, most_formulas, most_policy_lines, mos
 use Rattle.scope.specs.File.Reader.{Outcome, read_request}
 use Rattle.scope.specs.Call.Tables.{form_entry, policy_entry, step_entry, table, unpack, has_room}
 use Rattle.scope.specs.Call.Calls.{reading, request_in, form_table_after, policy_table_after, step_table_after}
-use Rattle.common.specs.Answers.{answer_of, answerIs, answer_back}
+use Rattle.common.specs.Answers.{answer_of, answer_is, answer_back}
 use Rattle.common.specs.declared.Counts.{Counts}
 use Rattle.common.specs.declared.Answer.{Answer as Returned}
 use Rattle.reader.specs.Sections.{Formulas, PolicyRead, formulas_part, policy_part, steps_part}
-use Rattle.reader.specs.Answers.{counts_of, reading_of, formulasCounts, policyCounts, stepsCounts, part_of}
+use Rattle.reader.specs.Answers.{counts_of, reading_of, formulas_counts, policy_counts, steps_counts, part_of}
 use Rattle.reader.specs.Many.{tail_length}
 use Rattle.reader.specs.Stored.{table_none, unpack_table}
 use Rattle.reader.specs.Whole.{request_with, body_ended, body_request, sections, body_sections, formulas_ends, policy_ends, steps_ends}
@@ -68,15 +68,15 @@ module _ (t : List ℕ) where
       unfolding sections ◌>>=◌ and_then
       file_whole rows v c = rw a (rw b (rw c refl))
 
-  pub formulas_end : (x : Returned) → part_of formulasCounts (length t) (formulas_part t) ≡ Part.Refused x → body_request t ≡ refused (answerIs x)
+  pub formulas_end : (x : Returned) → part_of formulas_counts (length t) (formulas_part t) ≡ Part.Refused x → body_request t ≡ refused (answer_is x)
   formulas_end x e =
-      read_refused (answerIs x) (file_at_formulas (answerIs x) (part_lost formulasCounts (length t) (formulas_part t) x e))
+      read_refused (answer_is x) (file_at_formulas (answer_is x) (part_lost formulas_counts (length t) (formulas_part t) x e))
 
 -- The formulas, the policy and the steps of a text as the calls that read them left them: the counts, where the next begins, and the table.
 pub record FormulasKept (t : List ℕ) : Type 0 where
   pub counts : Counts
   pub at : ℕ
-  pub is : part_of formulasCounts (length t) (formulas_part t) ≡ Part.Read counts at
+  pub is : part_of formulas_counts (length t) (formulas_part t) ≡ Part.Read counts at
   pub numbers : List ℕ
   pub len : ℕ
   pub stored : (f : Formulas) (rest : List ℕ) → formulas_part t ≡ ok f rest → numbers ≡ table form_entry len f.forms
@@ -91,7 +91,7 @@ policy_read k = policy_part (unpack form_entry k.counts.formulas k.numbers) (beh
 pub record PolicyKept {t : List ℕ} (k : FormulasKept t) : Type 0 where
   pub counts : Counts
   pub at : ℕ
-  pub is : part_of (policyCounts k.counts) (length (behind_formulas k)) (policy_read k) ≡ Part.Read counts at
+  pub is : part_of (policy_counts k.counts) (length (behind_formulas k)) (policy_read k) ≡ Part.Read counts at
   pub numbers : List ℕ
   pub len : ℕ
   pub stored : (p : PolicyRead) (rest : List ℕ) → policy_read k ≡ ok p rest → numbers ≡ table policy_entry len p.policy
@@ -105,15 +105,15 @@ steps_read {t} {k} p = steps_part p.counts.formulas p.counts.policy (behind_poli
 pub record StepsKept {t : List ℕ} {k : FormulasKept t} (p : PolicyKept k) : Type 0 where
   pub counts : Counts
   pub at : ℕ
-  pub is : part_of (stepsCounts p.counts) (length (behind_policy p)) (steps_read p) ≡ Part.Read counts at
+  pub is : part_of (steps_counts p.counts) (length (behind_policy p)) (steps_read p) ≡ Part.Read counts at
   pub numbers : List ℕ
   pub len : ℕ
   pub stored : (rows : List Row) (rest : List ℕ) → steps_read p ≡ ok rows rest → numbers ≡ table step_entry len rows
 
 module _ {t : List ℕ} (k : FormulasKept t) where
   -- The formulas, and the text behind them.
-  fg : PartGot formulasCounts (length t) (formulas_part t) k.counts k.at
-  fg = part_got formulasCounts (length t) (formulas_part t) k.counts k.at k.is
+  fg : PartGot formulas_counts (length t) (formulas_part t) k.counts k.at
+  fg = part_got formulas_counts (length t) (formulas_part t) k.counts k.at k.is
 
   second : behind_formulas k ≡ fg.rest
   second = part_is formulas_part formulas_ends t fg.thing fg.rest k.at fg.is fg.place
@@ -132,17 +132,17 @@ module _ {t : List ℕ} (k : FormulasKept t) where
   same_policy : policy_read k ≡ policy_part fg.thing.forms fg.rest
   same_policy = λ i. policy_part (rows_are i) (second i)
 
-  pub policy_end : (x : Returned) → part_of (policyCounts k.counts) (length (behind_formulas k)) (policy_read k) ≡ Part.Refused x → body_request t
-      ≡ refused (answerIs x)
+  pub policy_end : (x : Returned) → part_of (policy_counts k.counts) (length (behind_formulas k)) (policy_read k) ≡ Part.Refused x → body_request t
+      ≡ refused (answer_is x)
   policy_end x d =
-      read_refused t (answerIs x)
-      (file_at_policy t fg.thing fg.rest fg.is (answerIs x)
-      (sym same_policy ∙ part_lost (policyCounts k.counts) (length (behind_formulas k)) (policy_read k) x d))
+      read_refused t (answer_is x)
+      (file_at_policy t fg.thing fg.rest fg.is (answer_is x)
+      (sym same_policy ∙ part_lost (policy_counts k.counts) (length (behind_formulas k)) (policy_read k) x d))
 
   module _ (p : PolicyKept k) where
     -- The policy and the goal, and the text behind them.
-    pg : PartGot (policyCounts k.counts) (length (behind_formulas k)) (policy_read k) p.counts p.at
-    pg = part_got (policyCounts k.counts) (length (behind_formulas k)) (policy_read k) p.counts p.at p.is
+    pg : PartGot (policy_counts k.counts) (length (behind_formulas k)) (policy_read k) p.counts p.at
+    pg = part_got (policy_counts k.counts) (length (behind_formulas k)) (policy_read k) p.counts p.at p.is
 
     third : behind_policy p ≡ pg.rest
     third = part_is (policy_part (unpack form_entry k.counts.formulas k.numbers))
@@ -153,23 +153,23 @@ module _ {t : List ℕ} (k : FormulasKept t) where
     policy_place = omega (arith, pg.place)
 
     -- The counts up to the steps.
-    counted : p.counts ≡ policyCounts (formulasCounts fg.thing) pg.thing
-    counted = pg.counted ∙ ap (λ c. policyCounts c pg.thing) fg.counted
+    counted : p.counts ≡ policy_counts (formulas_counts fg.thing) pg.thing
+    counted = pg.counted ∙ ap (λ c. policy_counts c pg.thing) fg.counted
 
     same_steps : steps_read p ≡ steps_part (length fg.thing.forms) (length pg.thing.policy) pg.rest
     same_steps = λ i. steps_part (counted i).formulas (counted i).policy (third i)
 
-    pub steps_end : (x : Returned) → part_of (stepsCounts p.counts) (length (behind_policy p)) (steps_read p) ≡ Part.Refused x → body_request t
-        ≡ refused (answerIs x)
+    pub steps_end : (x : Returned) → part_of (steps_counts p.counts) (length (behind_policy p)) (steps_read p) ≡ Part.Refused x → body_request t
+        ≡ refused (answer_is x)
     steps_end x h =
-        read_refused t (answerIs x)
-        (file_at_steps t fg.thing fg.rest fg.is pg.thing pg.rest (sym same_policy ∙ pg.is) (answerIs x)
-        (sym same_steps ∙ part_lost (stepsCounts p.counts) (length (behind_policy p)) (steps_read p) x h))
+        read_refused t (answer_is x)
+        (file_at_steps t fg.thing fg.rest fg.is pg.thing pg.rest (sym same_policy ∙ pg.is) (answer_is x)
+        (sym same_steps ∙ part_lost (steps_counts p.counts) (length (behind_policy p)) (steps_read p) x h))
 
     module _ (s : StepsKept p) where
       -- The steps, and whether anything follows.
-      sg : PartGot (stepsCounts p.counts) (length (behind_policy p)) (steps_read p) s.counts s.at
-      sg = part_got (stepsCounts p.counts) (length (behind_policy p)) (steps_read p) s.counts s.at s.is
+      sg : PartGot (steps_counts p.counts) (length (behind_policy p)) (steps_read p) s.counts s.at
+      sg = part_got (steps_counts p.counts) (length (behind_policy p)) (steps_read p) s.counts s.at s.is
 
       abbrev joined : Request
       joined = request_with fg.thing pg.thing sg.thing
@@ -183,7 +183,7 @@ module _ {t : List ℕ} (k : FormulasKept t) where
           ((steps_ends p.counts.formulas p.counts.policy).ends (behind_policy p) sg.thing sg.rest sg.is)
 
       all_counted : s.counts ≡ counts_of joined
-      all_counted = sg.counted ∙ ap (λ c. stepsCounts c sg.thing) counted
+      all_counted = sg.counted ∙ ap (λ c. steps_counts c sg.thing) counted
 
       pub bytes_after : s.at < length (behind_policy p) → body_request t
           ≡ refused (answer 6 (end_at s.counts.formulas s.counts.policy s.counts.steps))
@@ -215,28 +215,28 @@ module _ {t : List ℕ} (k : FormulasKept t) where
             ),
           )
 
-pub refused_answer : (o : Outcome) (x : Returned) → o ≡ refused (answerIs x) → Reading.Refused x ≡ reading_of o
+pub refused_answer : (o : Outcome) (x : Returned) → o ≡ refused (answer_is x) → Reading.Refused x ≡ reading_of o
 unfolding reading_of
 refused_answer o x e = rw e refl
 
 -- A refused text answers so, and says nothing of the tables.
-pub refused_all : {A B C : Request → Type 0} (o : Outcome) (x y : Returned) → y ≡ x → o ≡ refused (answerIs x)
+pub refused_all : {A B C : Request → Type 0} (o : Outcome) (x y : Returned) → y ≡ x → o ≡ refused (answer_is x)
     → (Reading.Refused y ≡ reading_of o) ×
     (((q : Request) → o ≡ result q → A q) × (((q : Request) → o ≡ result q → B q) × ((q : Request) → o ≡ result q → C q)))
 refused_all o x y r e = (
   ap Reading.Refused r ∙ refused_answer o x e,
   (
-    (λ q z. outcome_never o (answerIs x) q e z),
-    ((λ q z. outcome_never o (answerIs x) q e z), (λ q z. outcome_never o (answerIs x) q e z)),
+    (λ q z. outcome_never o (answer_is x) q e z),
+    ((λ q z. outcome_never o (answer_is x) q e z), (λ q z. outcome_never o (answer_is x) q e z)),
   ),
 )
 
-pub refused_outcome : (o : Outcome) (x : Returned) → reading_of o ≡ Reading.Refused x → o ≡ refused (answerIs x)
+pub refused_outcome : (o : Outcome) (x : Returned) → reading_of o ≡ Reading.Refused x → o ≡ refused (answer_is x)
 unfolding reading_of
 refused_outcome (result q) x e = never cc
 refused_outcome (refused z) x e =
     let f : answer_of z ≡ x = cc in
-    ap refused (sym (answer_back z) ∙ ap answerIs f)
+    ap refused (sym (answer_back z) ∙ ap answer_is f)
 
 pub record ReadOutcome (o : Outcome) : Type 0 where
   pub request : Request
@@ -296,11 +296,11 @@ pub record Cleared (forms policy steps : ℕ) : Type 0 where
   pub lines_clear : policy_table ≡ replicate policy 0
   pub steps_clear : step_table ≡ replicate steps 0
 
-pub tables_zero : {forms policy steps : ℕ} (k : Cleared forms policy steps) (o : Outcome) (x : Returned) → o ≡ refused (answerIs x)
+pub tables_zero : {forms policy steps : ℕ} (k : Cleared forms policy steps) (o : Outcome) (x : Returned) → o ≡ refused (answer_is x)
     → (k.form_table ≡ form_table_after forms o) × ((k.policy_table ≡ policy_table_after policy o) × (k.step_table ≡ step_table_after steps o))
 tables_zero {forms} {policy} {steps} k o x e = (
-  k.forms_clear ∙ forms_zero forms o (answerIs x) e,
-  (k.lines_clear ∙ lines_zero policy o (answerIs x) e, k.steps_clear ∙ steps_zero steps o (answerIs x) e),
+  k.forms_clear ∙ forms_zero forms o (answer_is x) e,
+  (k.lines_clear ∙ lines_zero policy o (answer_is x) e, k.steps_clear ∙ steps_zero steps o (answer_is x) e),
 )
 
 -- Room for the largest counts.

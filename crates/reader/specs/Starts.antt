@@ -13,14 +13,14 @@ use Rattle.scope.specs.File.Text.{version_line, logic_line}
 use Rattle.scope.specs.File.Reader.{Outcome, body_lines, read_logic, read_request}
 use Rattle.scope.specs.Limits.{most_bytes, version_at, logic_at}
 use Rattle.scope.specs.Tools.Tests.{never}
-use Rattle.common.specs.Answers.{answer_of, answerIs, answer_back}
+use Rattle.common.specs.Answers.{answer_of, answer_is, answer_back}
 use Rattle.common.specs.declared.Answer.{Answer as Returned}
 use Rattle.trip.specs.LinePlaces.{lfs, lfs_within}
 use Rattle.trip.specs.Places.{body_from}
 use Rattle.reader.specs.Sections.{Told, start_part}
-use Rattle.reader.specs.Answers.{start_of, reading_of, toldWith, place_of}
+use Rattle.reader.specs.Answers.{start_of, reading_of, told_with, place_of}
 use Rattle.reader.specs.Many.{tail_length}
-use Rattle.reader.specs.Whole.{body_ended, body_request, headed, headed_outcome, start_refused, start_read, start_ends}
+use Rattle.reader.specs.Whole.{body_ended, body_request, headed, headed_outcome, start_refused_lem, start_read, start_ends}
 use Rattle.reader.specs.Got.{part_from, part_is}
 use Rattle.reader.specs.declared.Reading.{Reading}
 use Rattle.reader.specs.declared.Start.TheVariants as Start
@@ -70,18 +70,18 @@ started t v k at e = go (start_part t) refl e
     go (ok h rest) d f = record { told = h; rest = rest; is = d; version = cc; logic = cc; place = cc }
     go (bad z) d f = never cc
 
-pub start_lost : (t : List ℕ) (x : Returned) → start_of (length t) (start_part t) ≡ Start.Refused x → read_request t ≡ refused (answerIs x)
+pub start_lost : (t : List ℕ) (x : Returned) → start_of (length t) (start_part t) ≡ Start.Refused x → read_request t ≡ refused (answer_is x)
 unfolding start_of
 start_lost t x e = go (start_part t) refl e
   where
-    go : (r : Read Told) → start_part t ≡ r → start_of (length t) r ≡ Start.Refused x → read_request t ≡ refused (answerIs x)
+    go : (r : Read Told) → start_part t ≡ r → start_of (length t) r ≡ Start.Refused x → read_request t ≡ refused (answer_is x)
     go (ok h rest) d f = never cc
     go (bad z) d f =
         let y : answer_of z ≡ x = cc in
-        start_refused t z d ∙ ap refused (sym (answer_back z) ∙ ap answerIs y)
+        start_refused_lem t z d ∙ ap refused (sym (answer_back z) ∙ ap answer_is y)
 
-reading_headed : (v : ℕ) (l : Logic) (o : Outcome) → toldWith v (logic_number l) (reading_of o) ≡ reading_of (headed_outcome v l o)
-unfolding toldWith reading_of headed_outcome further_down
+reading_headed : (v : ℕ) (l : Logic) (o : Outcome) → told_with v (logic_number l) (reading_of o) ≡ reading_of (headed_outcome v l o)
+unfolding told_with reading_of headed_outcome further_down
 reading_headed v l (result q) = refl
 reading_headed v l (refused (told k p c)) = refl
 
@@ -100,9 +100,9 @@ module _ {t : List ℕ} {v k at : ℕ} (g : Started t v k at) where
       start_read t g.told g.rest g.is ∙
       ap (λ s. headed_outcome g.told.version g.told.logic (body_request s)) (sym behind)
 
-  pub all_told : (body : Reading) → body ≡ reading_of (body_request (part_from at t)) → toldWith v k body ≡ reading_of (read_request t)
+  pub all_told : (body : Reading) → body ≡ reading_of (body_request (part_from at t)) → told_with v k body ≡ reading_of (read_request t)
   all_told body e =
-      (λ i. toldWith (sym g.version i) (sym g.logic i) (e i)) ∙
+      (λ i. told_with (sym g.version i) (sym g.logic i) (e i)) ∙
       reading_headed g.told.version g.told.logic (body_request (part_from at t)) ∙
       ap reading_of (sym outcome)
 

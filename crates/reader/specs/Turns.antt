@@ -2,19 +2,19 @@
 use Rattle.std.specs.Prelude.{ℕ, suc, ◌+◌, ◌-◌, ◌*◌, ◌≤◌, ◌<◌, ◌≡◌, List, [], ◌∷◌, ◌++◌, length, set, replicate}
 use Prim.Native.String.{String}
 use Rattle.std.proofs.Math.Nat.{sub-zero}
-use Rattle.std.proofs.Common.{arith, sym, subst, ◌∙◌, length-append, length-set}
+use Rattle.std.proofs.Common.{arith, sym, ◌∙◌, length-append, length-set}
 use Rattle.std.proofs.Math.Path.{refl, ap}
 use Rattle.scope.specs.Call.Answer.{Answer}
 use Rattle.scope.specs.File.Bytes.{bytes}
 use Rattle.scope.specs.File.Number.{number}
 use Rattle.scope.specs.File.Request.{Row}
-use Rattle.scope.specs.File.Line.{Value, val, out, Read, ok, bad, Reader, shaped_as, line, and_then, ◌>>=◌, many}
-use Rattle.scope.specs.Call.Tables.{Entry, table, form_entry, policy_entry, step_entry}
-use Rattle.scope.specs.File.Kinds.{form_kinds, step_kinds, row_in}
-use Rattle.scope.specs.Limits.{principals_at, atoms_at, formulas_at, form_at, clause_at, step_at}
-use Rattle.scope.specs.File.Refusals.{row_refusal, form_refusal, step_refusal, principals_refusal, atoms_refusal, formulas_refusal}
+use Rattle.scope.specs.File.Line.{Read, ok, bad, Reader, shaped_as, line, and_then, ◌>>=◌, many}
+use Rattle.scope.specs.Call.Tables.{Entry, table, policy_entry, step_entry}
+use Rattle.scope.specs.File.Kinds.{step_kinds, row_in}
+use Rattle.scope.specs.Limits.{principals_at, atoms_at, formulas_at, clause_at, step_at}
+use Rattle.scope.specs.File.Refusals.{step_refusal, principals_refusal, atoms_refusal, formulas_refusal}
 use Rattle.scope.specs.File.Text.{principals_line, atoms_line, formulas_line, clause_line, step_line}
-use Rattle.scope.specs.File.Reader.{form_item, step_item}
+use Rattle.scope.specs.File.Reader.{step_item}
 use Rattle.common.specs.Answers.{answer_of}
 use Rattle.classes.specs.Class.{policy_in}
 use Rattle.lines.specs.Parts.{value_of, rest_of}
@@ -25,17 +25,13 @@ use Rattle.steps.specs.declared.Pair.{Pair}
 use Rattle.steps.specs.Steps.{pair_of}
 use Rattle.refusals.specs.Rows.{row, class_refusal}
 use Rattle.reader.specs.Sections.{Counted, head_part, classed_item}
-use Rattle.reader.specs.Answers.{refused_at, numberLineOf, rowLineOf, stepLineOf, sectionOf, headCounts, part_of}
-use Rattle.reader.specs.Lines.{no_form, no_step, out_row, val_row, out_step, StepRow, step_row_lem, row_ok, row_bad, row_behind, value_ok, value_bad, value_behind}
+use Rattle.reader.specs.Answers.{refused_at, number_line_of, step_line_of, section_of, head_counts, part_of}
+use Rattle.reader.specs.Lines.{no_step, out_step, StepRow, step_row_lem, row_ok, row_bad, row_behind, value_ok, value_bad, value_behind}
 use Rattle.reader.specs.Many.{onto, many_more, many_stop, many_end, many_start, tail_length, rest_tail}
-use Rattle.reader.specs.Stored.{table_none, form_more, line_more, step_more}
+use Rattle.reader.specs.Stored.{table_none, line_more, step_more}
 use Rattle.reader.specs.Got.{part_from, never_both, same_things}
 use Rattle.reader.specs.declared.NumberLine.{NumberLine}
-use Rattle.reader.specs.declared.NumberLine.TheVariants as NumberLine
-use Rattle.reader.specs.declared.RowLine.{RowLine}
-use Rattle.reader.specs.declared.RowLine.TheVariants as RowLine
 use Rattle.reader.specs.declared.StepLine.{StepLine}
-use Rattle.reader.specs.declared.StepLine.TheVariants as StepLine
 use Rattle.reader.specs.declared.Section.TheVariants as Section
 use Rattle.reader.specs.declared.Part.TheVariants as Part
 
@@ -44,14 +40,14 @@ rest_short s rest e = omega (arith, ap length e, tail_length (rest_of s) s (rest
 
 -- The answer of a section, and what it says of the things read.
 module _ {A : Type 0} (n : ℕ) (r : Read (List A)) where
-  section_refused : {X : List A → List ℕ → Type 0} (z : Answer) → r ≡ bad z → (x : Returned) → x ≡ answer_of z
-      → (Section.Refused x ≡ sectionOf n r) × ((xs : List A) (rest : List ℕ) → r ≡ ok xs rest → X xs rest)
-  unfolding sectionOf
-  section_refused z e x d = (ap Section.Refused d ∙ rw e refl, λ xs rest f. never_both r z xs rest e f)
+  section_refused_lem : {X : List A → List ℕ → Type 0} (z : Answer) → r ≡ bad z → (x : Returned) → x ≡ answer_of z
+      → (Section.Refused x ≡ section_of n r) × ((xs : List A) (rest : List ℕ) → r ≡ ok xs rest → X xs rest)
+  unfolding section_of
+  section_refused_lem z e x d = (ap Section.Refused d ∙ rw e refl, λ xs rest f. never_both r z xs rest e f)
 
   section_read : (entry : Entry A) (len : ℕ) (numbers : List ℕ) (xs : List A) (rest : List ℕ) → r ≡ ok xs rest → numbers ≡ table entry len xs
-      → (Section.Read (n - length rest) ≡ sectionOf n r) × ((ys : List A) (over : List ℕ) → r ≡ ok ys over → numbers ≡ table entry len ys)
-  unfolding sectionOf
+      → (Section.Read (n - length rest) ≡ section_of n r) × ((ys : List A) (over : List ℕ) → r ≡ ok ys over → numbers ≡ table entry len ys)
+  unfolding section_of
   section_read entry len numbers xs rest e d = (rw e refl, λ ys over f. d ∙ ap (table entry len) (same_things r xs ys rest over e f))
 
 -- A loop over n lines after i of them: the things read so far stand in the table, and what is left of the text gives the others.
@@ -79,7 +75,7 @@ module _ {A : Type 0} (entry : Entry A) (item : List A → Reader A) (n : ℕ) (
       }
 
   module _ {len : ℕ} {numbers rest : List ℕ} {i : ℕ} (k : Turns entry item n text len numbers rest i) where
-    pub turns_end : n ≤ i → (Section.Read (length text - length rest) ≡ sectionOf (length text) (many item n [] text)) ×
+    pub turns_end : n ≤ i → (Section.Read (length text - length rest) ≡ section_of (length text) (many item n [] text)) ×
         ((xs : List A) (over : List ℕ) → many item n [] text ≡ ok xs over → numbers ≡ table entry len xs)
     turns_end h =
         let f : n - i ≡ 0 = omega arith in
@@ -93,10 +89,10 @@ module _ {A : Type 0} (entry : Entry A) (item : List A → Reader A) (n : ℕ) (
           k.whole ∙ ap (λ m. onto k.before (many item m k.before rest)) f
 
       pub turn_stops : {X : List A → List ℕ → Type 0} (z : Answer) → item k.before rest ≡ bad z → (x : Returned) → x ≡ answer_of z
-          → (Section.Refused x ≡ sectionOf (length text) (many item n [] text)) ×
+          → (Section.Refused x ≡ section_of (length text) (many item n [] text)) ×
           ((xs : List A) (over : List ℕ) → many item n [] text ≡ ok xs over → X xs over)
       turn_stops z e x d =
-          section_refused (length text) (many item n [] text) z
+          section_refused_lem (length text) (many item n [] text) z
           (one_turn ∙ many_stop item (n - (i + 1)) k.before rest z e) x d
 
       pub turn_more : (a : A) (m : ℕ) → Behind rest m → item k.before rest ≡ ok a (part_from m rest) → (and_then : List ℕ)
@@ -122,14 +118,14 @@ pub record LineAsked {R : Type 0} (key : String) (asked : List ℕ → R) (s : L
 
 -- One turn over `clause=` lines.
 abbrev pub clause_asked : List ℕ → ℕ → List ℕ → NumberLine
-clause_asked classes formulas v = numberLineOf (shaped_as (class_refusal policy_in classes formulas) (number v))
+clause_asked classes formulas v = number_line_of (shaped_as (class_refusal policy_in classes formulas) (number v))
 
 module _ (classes : List ℕ) (formulas : ℕ) {n : ℕ} {text : List ℕ} {len : ℕ} {numbers s : List ℕ} {i : ℕ}
     (k : Turns policy_entry (classed_item classes formulas) n text len numbers s i) (h : i < n)
     (q : LineAsked "clause=" (clause_asked classes formulas) s) where
   pub clause_stops : {X : List ℕ → List ℕ → Type 0} (j : ℕ) → q.answer ≡ NumberLine.Refused j → (x : Returned)
       → x ≡ answer_of (refused_at clause_line j (clause_at formulas i) s)
-      → (Section.Refused x ≡ sectionOf (length text) (many (classed_item classes formulas) n [] text)) ×
+      → (Section.Refused x ≡ section_of (length text) (many (classed_item classes formulas) n [] text)) ×
       ((policy : List ℕ) (over : List ℕ) → many (classed_item classes formulas) n [] text ≡ ok policy over → X policy over)
   clause_stops j e x d =
       turn_stops policy_entry (classed_item classes formulas) n text k h (refused_at clause_line j (clause_at formulas i) s)
@@ -150,13 +146,13 @@ module _ (classes : List ℕ) (formulas : ℕ) {n : ℕ} {text : List ℕ} {len 
 
 -- And over `step=` lines, whose steps stand in the table as pairs.
 abbrev pub step_asked : List ℕ → StepLine
-step_asked v = stepLineOf (shaped_as step_refusal (row_in step_kinds v))
+step_asked v = step_line_of (shaped_as step_refusal (row_in step_kinds v))
 
 module _ (formulas clauses : ℕ) {n : ℕ} {text : List ℕ} {len : ℕ} {numbers s : List ℕ} {i : ℕ}
     (k : Turns step_entry (step_item formulas clauses) n text len numbers s i) (h : i < n) (q : LineAsked "step=" step_asked s) where
   pub step_stops : {X : List Row → List ℕ → Type 0} (j : ℕ) → q.answer ≡ StepLine.Refused j → (x : Returned)
       → x ≡ answer_of (refused_at step_line j (step_at formulas clauses (suc i)) s)
-      → (Section.Refused x ≡ sectionOf (length text) (many (step_item formulas clauses) n [] text)) ×
+      → (Section.Refused x ≡ section_of (length text) (many (step_item formulas clauses) n [] text)) ×
       ((rows : List Row) (over : List ℕ) → many (step_item formulas clauses) n [] text ≡ ok rows over → X rows over)
   step_stops j e x d =
       let place : step_at formulas clauses (suc (length k.before)) ≡ step_at formulas clauses (suc i) = omega (arith, k.count) in
@@ -203,11 +199,11 @@ module _ (s : List ℕ) where
       head_whole f s₃ c = rw a (rw b (rw c refl))
 
 module _ (n : ℕ) (r : Read Counted) where
-  pub head_refused : (z : Answer) → r ≡ bad z → Part.Refused (answer_of z) ≡ part_of headCounts n r
+  pub head_refused : (z : Answer) → r ≡ bad z → Part.Refused (answer_of z) ≡ part_of head_counts n r
   unfolding part_of
   head_refused z e = rw e refl
 
   pub head_read_lem : (p a f : ℕ) (rest : List ℕ) → r ≡ ok record { principals = p; atoms = a; formulas = f } rest → Part.Read
-      record { version = 0; logic = 0; principals = p; atoms = a; formulas = f; policy = 0; goal = 0; steps = 0 } (n - length rest) ≡ part_of headCounts n r
+      record { version = 0; logic = 0; principals = p; atoms = a; formulas = f; policy = 0; goal = 0; steps = 0 } (n - length rest) ≡ part_of head_counts n r
   unfolding part_of
   head_read_lem p a f rest e = rw e refl

@@ -1,15 +1,15 @@
 -- The whole file from its sections, and what is left of the text behind each. The lines from `principals=` on are read without version and
 -- logic, which stand as 0 and plain until they are told.
-use Rattle.std.specs.Prelude.{ℕ, ◌≡◌, refl, List, [], ◌∷◌, Bool, true, false, cond, length}
+use Rattle.std.specs.Prelude.{ℕ, suc, ◌≡◌, refl, List, [], ◌∷◌, Bool, true, false, cond, length}
 use Rattle.std.proofs.Common.{sym, ap, ◌∙◌}
 use Rattle.scope.specs.Call.Result.{result, refused}
 use Rattle.scope.specs.Logic.Facts.{Logic, plain}
 use Rattle.scope.specs.Call.Answer.{Answer, answer, further_down}
 use Rattle.scope.specs.File.Request.{Row, Request}
 use Rattle.scope.specs.File.Line.{Read, ok, bad, Reader, line, many, counted, done, and_then, moved_down, further, ◌>>=◌}
-use Rattle.scope.specs.File.Refusals.{version_refusal, principals_refusal, atoms_refusal, formulas_refusal, clauses_refusal, goal_refusal}
-use Rattle.scope.specs.Limits.{version_at, has_logic, logic_at, extra_lines, principals_at, atoms_at, formulas_at, clauses_at, goal_at, end_at}
-use Rattle.scope.specs.File.Text.{version_line, logic_line, principals_line, atoms_line, formulas_line, clauses_line, goal_line}
+use Rattle.scope.specs.File.Refusals.{version_refusal, principals_refusal, atoms_refusal, formulas_refusal, form_refusal, clauses_refusal, clause_refusal, goal_refusal, steps_refusal, step_refusal}
+use Rattle.scope.specs.Limits.{version_at, has_logic, logic_at, extra_lines, principals_at, atoms_at, formulas_at, form_at, clauses_at, clause_at, goal_at, steps_at, step_at, end_at}
+use Rattle.scope.specs.File.Text.{version_line, logic_line, principals_line, atoms_line, formulas_line, form_line, clauses_line, clause_line, goal_line, steps_line, step_line}
 use Rattle.scope.specs.File.Reader.{form_item, clause_item, step_item, body_lines, read_logic, request_lines, Outcome, ended, read_request}
 use Rattle.reader.specs.Sections.{Told, Formulas, PolicyRead, start_part, head_part, formulas_part, policy_part, steps_part}
 use Rattle.reader.specs.Many.{Ends, done_ends, line_ends, seq_ends, many_ends}
@@ -121,9 +121,9 @@ request_start : (s : List ℕ) → request_lines s ≡ and_then (start_part s) b
 unfolding request_lines start_part ◌>>=◌ and_then
 request_start s = simp after_assoc
 
-pub start_refused : (s : List ℕ) (a : Answer) → start_part s ≡ bad a → read_request s ≡ refused a
+pub start_refused_lem : (s : List ℕ) (a : Answer) → start_part s ≡ bad a → read_request s ≡ refused a
 unfolding read_request ended and_then
-start_refused s a e = rw (request_start s, e) refl
+start_refused_lem s a e = rw (request_start s, e) refl
 
 pub start_read : (s : List ℕ) (h : Told) (rest : List ℕ) → start_part s ≡ ok h rest →
     read_request s ≡ headed_outcome h.version h.logic (body_request rest)
@@ -135,33 +135,40 @@ start_read s h rest e =
 
 pub start_ends : Ends start_part
 unfolding start_part
-start_ends = seq_ends _ _ (line_ends _ _ _) (λ version. seq_ends _ _ (logic_ends version) (λ logic. done_ends _))
+start_ends =
+    seq_ends _ _ (line_ends version_line version_refusal version_at)
+    (λ version. seq_ends _ _ (logic_ends version) (λ logic. done_ends _))
   where
     logic_ends : (version : ℕ) → Ends (read_logic version)
     logic_ends version = go (has_logic version)
       where
         go : (b : Bool) → Ends (cond b (line logic_line (λ l. 0) logic_at) (done plain))
-        go true = line_ends _ _ _
-        go false = done_ends _
+        go true = line_ends logic_line (λ l. 0) logic_at
+        go false = done_ends plain
 
 pub head_ends : Ends head_part
 unfolding head_part
 head_ends =
-    seq_ends _ _ (line_ends _ _ _)
-    (λ principals. seq_ends _ _ (line_ends _ _ _) (λ atoms. seq_ends _ _ (line_ends _ _ _) (λ formulas. done_ends _)))
+    seq_ends _ _ (line_ends principals_line principals_refusal principals_at)
+    (λ principals. seq_ends _ _ (line_ends atoms_line atoms_refusal atoms_at)
+    (λ atoms. seq_ends _ _ (line_ends formulas_line formulas_refusal formulas_at) (λ formulas. done_ends _)))
 
 pub formulas_ends : Ends formulas_part
 unfolding formulas_part
 formulas_ends = seq_ends _ _ head_ends (λ h. seq_ends _ _
-    (many_ends (form_item h.principals h.atoms) h.formulas [] (λ b. line_ends _ _ _)) (λ forms. done_ends _))
+    (many_ends (form_item h.principals h.atoms) h.formulas [] (λ b. line_ends form_line (form_refusal h.principals h.atoms b) (form_at (length b))))
+    (λ forms. done_ends _))
 
 pub policy_ends : (forms : List Row) → Ends (policy_part forms)
 unfolding policy_part
 policy_ends forms =
-    seq_ends _ _ (line_ends _ _ _)
-    (λ n. seq_ends _ _ (many_ends (clause_item forms) n [] (λ b. line_ends _ _ _))
+    seq_ends _ _ (line_ends clauses_line clauses_refusal (clauses_at (length forms)))
+    (λ n. seq_ends _ _ (many_ends (clause_item forms) n [] (λ b. line_ends clause_line (clause_refusal forms) (clause_at (length forms) (length b))))
     (λ policy. seq_ends _ _ (line_ends goal_line (goal_refusal forms) (goal_at (length forms) (length policy))) (λ goal. done_ends _)))
 
 pub steps_ends : (formulas clauses : ℕ) → Ends (steps_part formulas clauses)
 unfolding steps_part
-steps_ends formulas clauses = seq_ends _ _ (line_ends _ _ _) (λ n. many_ends (step_item formulas clauses) n [] (λ b. line_ends _ _ _))
+steps_ends formulas clauses =
+    seq_ends _ _ (line_ends steps_line steps_refusal (steps_at formulas clauses))
+    (λ n. many_ends (step_item formulas clauses) n []
+    (λ b. line_ends step_line step_refusal (step_at formulas clauses (suc (length b)))))

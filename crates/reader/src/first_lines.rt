@@ -5,7 +5,7 @@ ghost use Rattle.scope.specs.File.Number.{number};
 ghost use Rattle.scope.specs.File.Line.{shaped_as};
 ghost use Rattle.scope.specs.File.Refusals.{count_refusal};
 ghost use Rattle.lines.specs.Parts.{value_of};
-ghost use Rattle.reader.specs.Answers.{numberLineOf, headCounts, part_of, formulaCount};
+ghost use Rattle.reader.specs.Answers.{number_line_of, head_counts, part_of, formula_count};
 ghost use Rattle.reader.specs.Sections.{head_part};
 
 use crate::{NumberLine, Part};
@@ -14,7 +14,7 @@ use lines::Number;
 
 // A line with a count between `least` and `most`.
 pub(crate) fn count_line(text: &[u8], key: &[u8], least: u16, most: u16) -> NumberLine
-    ensures { result ≡ numberLineOf (shaped_as (count_refusal least most) (number (value_of key.now text.now))) }
+    ensures { result ≡ number_line_of (shaped_as (count_refusal least most) (number (value_of key.now text.now))) }
 {
     let value = lines::value_of(text, key);
     let got = lines::read_number(value);
@@ -31,8 +31,8 @@ pub(crate) fn count_line(text: &[u8], key: &[u8], least: u16, most: u16) -> Numb
 }
 
 pub(crate) fn read_head(text: &[u8]) -> Part
-    ensures value { result ≡ part_of headCounts (length text.now) (head_part text.now) }
-    ensures result_bound { formulaCount result ≤ most_formulas }
+    ensures value { result ≡ part_of head_counts (length text.now) (head_part text.now) }
+    ensures few_formulas { formula_count result ≤ most_formulas }
 {
     let principals = count_line(text, b"principals=", 1, common::MOST_PRINCIPALS);
     let NumberLine::Number(p) = principals else {

@@ -7,7 +7,7 @@ ghost use Rattle.scope.specs.File.Refusals.{row_refusal};
 ghost use Rattle.scope.specs.File.Request.{Row as FormRow};
 ghost use Rattle.scope.specs.File.Reader.{form_item};
 ghost use Rattle.scope.specs.Call.Tables.{table, form_entry};
-ghost use Rattle.reader.specs.Answers.{rowLineOf, sectionOf, formulasCounts, part_of, formulaCount};
+ghost use Rattle.reader.specs.Answers.{row_line_of, section_of, formulas_counts, part_of, formula_count};
 ghost use Rattle.reader.specs.NewRows.{asked_row, slots_after};
 ghost use Rattle.reader.specs.Sections.{Formulas, formulas_part};
 
@@ -17,7 +17,7 @@ use numbering::{Earlier, SLOTS};
 
 // The value of a `form=` line.
 fn form_line(value: &[u8], principals: u16, atoms: u16, formula: u16) -> RowLine
-    ensures { result ≡ rowLineOf (shaped_as (row_refusal form_kinds principals atoms formula) (row_in form_kinds value.now)) }
+    ensures { result ≡ row_line_of (shaped_as (row_refusal form_kinds principals atoms formula) (row_in form_kinds value.now)) }
 {
     let got = lines::form_row(value);
     let Row::Items(kind, left, right) = got else {
@@ -42,7 +42,7 @@ fn new_line(
     forms: &[u16],
     slots: &mut [u16; SLOTS],
 ) -> RowLine
-    ensures value { result ≡ rowLineOf (shaped_as (asked_row principals atoms formula forms.now slots.old) (row_in form_kinds value.now)) }
+    ensures value { result ≡ row_line_of (shaped_as (asked_row principals atoms formula forms.now slots.old) (row_in form_kinds value.now)) }
     ensures slots_after { slots.new ≡ slots_after result forms.now formula slots.old }
 {
     let got = form_line(value, principals, atoms, formula);
@@ -58,7 +58,7 @@ fn new_line(
 
 fn read_forms(text: &[u8], principals: u16, atoms: u16, formulas: u16, forms: &mut [u16]) -> Section
     requires { (formulas ≤ most_formulas) × (3 * most_formulas ≤ length forms.old) × (forms.old ≡ replicate (length forms.old) 0) }
-    ensures value { result ≡ sectionOf (length text.now) (many (form_item principals atoms) formulas [] text.now) }
+    ensures value { result ≡ section_of (length text.now) (many (form_item principals atoms) formulas [] text.now) }
     ensures forms_after { (rows : List FormRow) (rest : List ℕ) → many (form_item principals atoms) formulas [] text.now ≡ ok rows rest → forms.new ≡ table form_entry (length forms.old) rows }
 {
     let mut slots = [0u16; SLOTS];
@@ -88,9 +88,9 @@ fn read_forms(text: &[u8], principals: u16, atoms: u16, formulas: u16, forms: &m
 
 pub(crate) fn read_formulas(text: &[u8], forms: &mut [u16]) -> Part
     requires { (3 * most_formulas ≤ length forms.old) × (forms.old ≡ replicate (length forms.old) 0) }
-    ensures value { result ≡ part_of formulasCounts (length text.now) (formulas_part text.now) }
+    ensures value { result ≡ part_of formulas_counts (length text.now) (formulas_part text.now) }
     ensures forms_after { (f : Formulas) (rest : List ℕ) → formulas_part text.now ≡ ok f rest → forms.new ≡ table form_entry (length forms.old) f.forms }
-    ensures result_bound { formulaCount result ≤ most_formulas }
+    ensures few_formulas { formula_count result ≤ most_formulas }
 {
     let head = crate::first_lines::read_head(text);
     let Part::Read(counts, at) = head else {

@@ -2,7 +2,7 @@
 #![tactic(auto)]
 
 ghost use Rattle.std.specs.Prelude.{◌≡◌, ◌*◌, ◌≤◌, length, replicate};
-ghost use Rattle.scope.specs.Call.Result.{result};
+ghost use Rattle.scope.specs.Call.Result.{result as a_result};
 ghost use Rattle.scope.specs.Limits.{most_bytes, most_formulas, most_policy_lines, most_steps};
 ghost use Rattle.scope.specs.File.Request.{Request};
 ghost use Rattle.scope.specs.File.Reader.{read_request};
@@ -11,7 +11,7 @@ ghost use Rattle.scope.specs.Call.Calls.{reading, form_table_after, policy_table
 ghost use Rattle.scope.specs.File.Text.{logic_line, form_line, step_line};
 ghost use Rattle.columns.specs.Shapes.{number_with};
 ghost use Rattle.common.specs.Answers.{answer_of};
-ghost use Rattle.reader.specs.Answers.{refused_at, numberRefusal, rowRefused, step_refused, sectionRefused, partRefused, startRefused, reading_of, toldWith, place_of};
+ghost use Rattle.reader.specs.Answers.{refused_at, number_refusal, row_refused, step_refused, section_refused, part_refused, start_refused, reading_of, told_with, place_of};
 ghost use Rattle.reader.specs.Whole.{body_request};
 
 use common::{Answer, Counts};
@@ -76,7 +76,7 @@ enum Part {
 // reaches the other case, which gives number 0.
 fn number_refused(line: NumberLine, place: u32, text: &[u8], key: &[u8]) -> Answer
     requires { length key.now ≤ 11 }
-    ensures* { λ r. ⌜ r ≡ answer_of (refused_at (number_with key.now) (numberRefusal line) place text.now) ⌝ }
+    ensures { result ≡ answer_of (refused_at (number_with key.now) (number_refusal line) place text.now) }
 {
     match line {
         NumberLine::Number(_) => Answer {
@@ -93,7 +93,7 @@ fn number_refused(line: NumberLine, place: u32, text: &[u8], key: &[u8]) -> Answ
 }
 
 fn row_refused(line: RowLine, place: u32, text: &[u8]) -> Answer
-    ensures* { λ r. ⌜ r ≡ answer_of (refused_at form_line (rowRefused line) place text.now) ⌝ }
+    ensures { result ≡ answer_of (refused_at form_line (row_refused line) place text.now) }
 {
     match line {
         RowLine::Row(_, _, _) => Answer {
@@ -110,7 +110,7 @@ fn row_refused(line: RowLine, place: u32, text: &[u8]) -> Answer
 }
 
 fn step_refused(line: StepLine, place: u32, text: &[u8]) -> Answer
-    ensures* { λ r. ⌜ r ≡ answer_of (refused_at step_line (step_refused line) place text.now) ⌝ }
+    ensures { result ≡ answer_of (refused_at step_line (step_refused line) place text.now) }
 {
     match line {
         StepLine::Step(_) => Answer {
@@ -127,7 +127,7 @@ fn step_refused(line: StepLine, place: u32, text: &[u8]) -> Answer
 }
 
 fn logic_refused(line: NumberLine, place: u32, text: &[u8]) -> Answer
-    ensures* { λ r. ⌜ r ≡ answer_of (refused_at logic_line (numberRefusal line) place text.now) ⌝ }
+    ensures { result ≡ answer_of (refused_at logic_line (number_refusal line) place text.now) }
 {
     match line {
         NumberLine::Number(_) => Answer {
@@ -144,7 +144,7 @@ fn logic_refused(line: NumberLine, place: u32, text: &[u8]) -> Answer
 }
 
 fn section_refused(section: Section) -> Answer
-    ensures* { λ r. ⌜ r ≡ sectionRefused section ⌝ }
+    ensures { result ≡ section_refused section }
 {
     match section {
         Section::Read(_) => Answer {
@@ -157,7 +157,7 @@ fn section_refused(section: Section) -> Answer
 }
 
 fn part_refused(part: Part) -> Answer
-    ensures* { λ r. ⌜ r ≡ partRefused part ⌝ }
+    ensures { result ≡ part_refused part }
 {
     match part {
         Part::Read(_, _) => Answer {
@@ -170,7 +170,7 @@ fn part_refused(part: Part) -> Answer
 }
 
 fn start_refused(start: Start) -> Answer
-    ensures* { λ r. ⌜ r ≡ startRefused start ⌝ }
+    ensures { result ≡ start_refused start }
 {
     match start {
         Start::Read(_, _, _) => Answer {
@@ -183,7 +183,7 @@ fn start_refused(start: Start) -> Answer
 }
 
 fn zero_table(numbers: &mut [u16])
-    ensures* { λ r. ⌜ numbers.new ≡ replicate (length numbers.old) 0 ⌝ }
+    ensures { numbers.new ≡ replicate (length numbers.old) 0 }
 {
     let mut i = 0;
     while i < numbers.len() {
@@ -195,10 +195,10 @@ fn zero_table(numbers: &mut [u16])
 // The lines from `principals=` on, as version 1 counts them, then 6. The tables are zero and have room.
 fn read_body(text: &[u8], forms: &mut [u16], policy: &mut [u16], steps: &mut [u16]) -> Reading
     requires { (3 * most_formulas ≤ length forms.old) × (forms.old ≡ replicate (length forms.old) 0) × (most_policy_lines ≤ length policy.old) × (policy.old ≡ replicate (length policy.old) 0) × (2 * most_steps ≤ length steps.old) × (steps.old ≡ replicate (length steps.old) 0) }
-    ensures* r_value { λ r. ⌜ r ≡ reading_of (body_request text.now) ⌝ }
-    ensures* fact { λ r. ⌜ ((q : Request) → body_request text.now ≡ result q → forms.new ≡ table form_entry (length forms.old) q.forms) ⌝ }
-    ensures* fact_2 { λ r. ⌜ ((q : Request) → body_request text.now ≡ result q → policy.new ≡ table policy_entry (length policy.old) q.policy) ⌝ }
-    ensures* fact_3 { λ r. ⌜ ((q : Request) → body_request text.now ≡ result q → steps.new ≡ table step_entry (length steps.old) q.steps) ⌝ }
+    ensures value { result ≡ reading_of (body_request text.now) }
+    ensures forms_after { (q : Request) → body_request text.now ≡ a_result q → forms.new ≡ table form_entry (length forms.old) q.forms }
+    ensures policy_after { (q : Request) → body_request text.now ≡ a_result q → policy.new ≡ table policy_entry (length policy.old) q.policy }
+    ensures steps_after { (q : Request) → body_request text.now ≡ a_result q → steps.new ≡ table step_entry (length steps.old) q.steps }
 {
     let first = form_lines::read_formulas(text, forms);
     let Part::Read(formulas, at) = first else {
@@ -228,7 +228,7 @@ fn read_body(text: &[u8], forms: &mut [u16], policy: &mut [u16], steps: &mut [u1
 // The refusal of a line or the counts of a body, told with the version and the logic before them.
 fn told_with(body: Reading, version: u16, logic: u16) -> Reading
     requires { place_of body ≤ 70000 }
-    ensures* { λ r. ⌜ r ≡ toldWith version logic body ⌝ }
+    ensures { result ≡ told_with version logic body }
 {
     match body {
         Reading::Read(counts) => Reading::Read(Counts {
@@ -255,10 +255,10 @@ fn told_with(body: Reading, version: u16, logic: u16) -> Reading
 // The lines in order, then 6. The tables are zero and have room.
 fn read_parts(text: &[u8], forms: &mut [u16], policy: &mut [u16], steps: &mut [u16]) -> Reading
     requires { (length text.now ≤ most_bytes) × (3 * most_formulas ≤ length forms.old) × (forms.old ≡ replicate (length forms.old) 0) × (most_policy_lines ≤ length policy.old) × (policy.old ≡ replicate (length policy.old) 0) × (2 * most_steps ≤ length steps.old) × (steps.old ≡ replicate (length steps.old) 0) }
-    ensures* r_value { λ r. ⌜ r ≡ reading_of (read_request text.now) ⌝ }
-    ensures* fact { λ r. ⌜ ((q : Request) → read_request text.now ≡ result q → forms.new ≡ table form_entry (length forms.old) q.forms) ⌝ }
-    ensures* fact_2 { λ r. ⌜ ((q : Request) → read_request text.now ≡ result q → policy.new ≡ table policy_entry (length policy.old) q.policy) ⌝ }
-    ensures* fact_3 { λ r. ⌜ ((q : Request) → read_request text.now ≡ result q → steps.new ≡ table step_entry (length steps.old) q.steps) ⌝ }
+    ensures value { result ≡ reading_of (read_request text.now) }
+    ensures forms_after { (q : Request) → read_request text.now ≡ a_result q → forms.new ≡ table form_entry (length forms.old) q.forms }
+    ensures policy_after { (q : Request) → read_request text.now ≡ a_result q → policy.new ≡ table policy_entry (length policy.old) q.policy }
+    ensures steps_after { (q : Request) → read_request text.now ≡ a_result q → steps.new ≡ table step_entry (length steps.old) q.steps }
 {
     let start = version_lines::read_start(text);
     let Start::Read(version, logic, at) = start else {
@@ -276,10 +276,10 @@ pub fn read_request(
     policy: &mut [u16],
     steps: &mut [u16],
 ) -> Reading
-    ensures* r_value { λ r. ⌜ r ≡ reading_of (reading (length forms.old) (length policy.old) (length steps.old) text.now) ⌝ }
-    ensures* forms_after { λ r. ⌜ forms.new ≡ form_table_after (length forms.old) (reading (length forms.old) (length policy.old) (length steps.old) text.now) ⌝ }
-    ensures* policy_after { λ r. ⌜ policy.new ≡ policy_table_after (length policy.old) (reading (length forms.old) (length policy.old) (length steps.old) text.now) ⌝ }
-    ensures* steps_after { λ r. ⌜ steps.new ≡ step_table_after (length steps.old) (reading (length forms.old) (length policy.old) (length steps.old) text.now) ⌝ }
+    ensures value { result ≡ reading_of (reading (length forms.old) (length policy.old) (length steps.old) text.now) }
+    ensures forms_after { forms.new ≡ form_table_after (length forms.old) (reading (length forms.old) (length policy.old) (length steps.old) text.now) }
+    ensures policy_after { policy.new ≡ policy_table_after (length policy.old) (reading (length forms.old) (length policy.old) (length steps.old) text.now) }
+    ensures steps_after { steps.new ≡ step_table_after (length steps.old) (reading (length forms.old) (length policy.old) (length steps.old) text.now) }
 {
     zero_table(forms);
     zero_table(policy);

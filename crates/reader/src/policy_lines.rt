@@ -7,7 +7,7 @@ ghost use Rattle.scope.specs.File.Line.{shaped_as, many, ok};
 ghost use Rattle.scope.specs.Call.Tables.{table, unpack, form_entry, policy_entry};
 ghost use Rattle.classes.specs.Class.{goal_in, policy_in};
 ghost use Rattle.lines.specs.Parts.{value_of};
-ghost use Rattle.reader.specs.Answers.{numberLineOf, sectionOf, policyCounts, part_of};
+ghost use Rattle.reader.specs.Answers.{number_line_of, section_of, policy_counts, part_of};
 ghost use Rattle.refusals.specs.Rows.{class_refusal};
 ghost use Rattle.reader.specs.Sections.{below_refusal, classed_item, PolicyRead, policy_part};
 
@@ -17,7 +17,7 @@ use lines::Number;
 
 // The value of a line with a formula number.
 fn formula_line(value: &[u8], formulas: u16) -> NumberLine
-    ensures { result ≡ numberLineOf (shaped_as (below_refusal formulas) (number value.now)) }
+    ensures { result ≡ number_line_of (shaped_as (below_refusal formulas) (number value.now)) }
 {
     let got = lines::read_number(value);
     let Number::Value(n) = got else {
@@ -31,7 +31,7 @@ fn formula_line(value: &[u8], formulas: u16) -> NumberLine
 
 // The value of a `clause=` line.
 fn clause_line(value: &[u8], formulas: u16, classes: &[u8]) -> NumberLine
-    ensures { result ≡ numberLineOf (shaped_as (class_refusal policy_in classes.now formulas) (number value.now)) }
+    ensures { result ≡ number_line_of (shaped_as (class_refusal policy_in classes.now formulas) (number value.now)) }
 {
     let got = formula_line(value, formulas);
     let NumberLine::Number(f) = got else {
@@ -45,7 +45,7 @@ fn clause_line(value: &[u8], formulas: u16, classes: &[u8]) -> NumberLine
 }
 
 fn goal_line(text: &[u8], formulas: u16, classes: &[u8]) -> NumberLine
-    ensures { result ≡ numberLineOf (shaped_as (class_refusal goal_in classes.now formulas) (number (value_of (bytes "goal=") text.now))) }
+    ensures { result ≡ number_line_of (shaped_as (class_refusal goal_in classes.now formulas) (number (value_of (bytes "goal=") text.now))) }
 {
     let value = lines::value_of(text, b"goal=");
     let got = formula_line(value, formulas);
@@ -67,8 +67,8 @@ fn read_clauses(
     policy: &mut [u16],
 ) -> Section
     requires { (clauses ≤ most_policy_lines) × (most_policy_lines ≤ length policy.old) × (policy.old ≡ replicate (length policy.old) 0) }
-    ensures value { result ≡ sectionOf (length text.now) (many (classed_item classes.now formulas) clauses [] text.now) }
-    ensures by_index { (rows : List ℕ) (rest : List ℕ) → many (classed_item classes.now formulas) clauses [] text.now ≡ ok rows rest → policy.new ≡ table policy_entry (length policy.old) rows }
+    ensures value { result ≡ section_of (length text.now) (many (classed_item classes.now formulas) clauses [] text.now) }
+    ensures policy_after { (rows : List ℕ) (rest : List ℕ) → many (classed_item classes.now formulas) clauses [] text.now ≡ ok rows rest → policy.new ≡ table policy_entry (length policy.old) rows }
 {
     let mut rest = text;
     let mut i: u16 = 0;
@@ -92,7 +92,7 @@ fn read_clauses(
 
 pub(crate) fn read_policy(text: &[u8], counts: Counts, forms: &[u16], policy: &mut [u16]) -> Part
     requires { (counts.formulas ≤ most_formulas) × (most_policy_lines ≤ length policy.old) × (policy.old ≡ replicate (length policy.old) 0) }
-    ensures value { result ≡ part_of (policyCounts counts) (length text.now) (policy_part (unpack form_entry counts.formulas forms.now) text.now) }
+    ensures value { result ≡ part_of (policy_counts counts) (length text.now) (policy_part (unpack form_entry counts.formulas forms.now) text.now) }
     ensures policy_after { (p : PolicyRead) (rest : List ℕ) → policy_part (unpack form_entry counts.formulas forms.now) text.now ≡ ok p rest → policy.new ≡ table policy_entry (length policy.old) p.policy }
 {
     let count = crate::first_lines::count_line(text, b"clauses=", 0, common::MOST_POLICY_LINES);

@@ -7,7 +7,7 @@ ghost use Rattle.scope.specs.File.Refusals.{step_refusal};
 ghost use Rattle.scope.specs.File.Request.{Row as StepRow};
 ghost use Rattle.scope.specs.File.Reader.{step_item};
 ghost use Rattle.scope.specs.Call.Tables.{table, step_entry};
-ghost use Rattle.reader.specs.Answers.{stepLineOf, sectionOf, stepsCounts, part_of};
+ghost use Rattle.reader.specs.Answers.{step_line_of, section_of, steps_counts, part_of};
 ghost use Rattle.reader.specs.Sections.{steps_part};
 
 use crate::{NumberLine, Part, Section, StepLine};
@@ -16,7 +16,7 @@ use lines::Row;
 
 // The value of a `step=` line.
 fn step_line(value: &[u8]) -> StepLine
-    ensures { result ≡ stepLineOf (shaped_as step_refusal (row_in step_kinds value.now)) }
+    ensures { result ≡ step_line_of (shaped_as step_refusal (row_in step_kinds value.now)) }
 {
     let got = lines::step_row(value);
     let Row::Items(kind, left, right) = got else {
@@ -34,7 +34,7 @@ fn step_line(value: &[u8]) -> StepLine
 
 fn read_steps(text: &[u8], formulas: u16, clauses: u16, count: u16, steps: &mut [u16]) -> Section
     requires { (count ≤ most_steps) × (2 * most_steps ≤ length steps.old) × (steps.old ≡ replicate (length steps.old) 0) }
-    ensures value { result ≡ sectionOf (length text.now) (many (step_item formulas clauses) count [] text.now) }
+    ensures value { result ≡ section_of (length text.now) (many (step_item formulas clauses) count [] text.now) }
     ensures steps_after { (rows : List StepRow) (rest : List ℕ) → many (step_item formulas clauses) count [] text.now ≡ ok rows rest → steps.new ≡ table step_entry (length steps.old) rows }
 {
     let mut rest = text;
@@ -62,7 +62,7 @@ fn read_steps(text: &[u8], formulas: u16, clauses: u16, count: u16, steps: &mut 
 
 pub(crate) fn read_proof(text: &[u8], counts: Counts, steps: &mut [u16]) -> Part
     requires { (2 * most_steps ≤ length steps.old) × (steps.old ≡ replicate (length steps.old) 0) }
-    ensures value { result ≡ part_of (stepsCounts counts) (length text.now) (steps_part counts.formulas counts.policy text.now) }
+    ensures value { result ≡ part_of (steps_counts counts) (length text.now) (steps_part counts.formulas counts.policy text.now) }
     ensures steps_after { (rows : List StepRow) (rest : List ℕ) → steps_part counts.formulas counts.policy text.now ≡ ok rows rest → steps.new ≡ table step_entry (length steps.old) rows }
 {
     let line = crate::first_lines::count_line(text, b"steps=", 1, common::MOST_STEPS);

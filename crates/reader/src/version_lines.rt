@@ -4,7 +4,7 @@ ghost use Rattle.scope.specs.File.Bytes.{bytes};
 ghost use Rattle.scope.specs.File.Kinds.{logic_word};
 ghost use Rattle.scope.specs.File.Line.{shaped_as};
 ghost use Rattle.lines.specs.Parts.{value_of};
-ghost use Rattle.reader.specs.Answers.{logicLineOf, start_of};
+ghost use Rattle.reader.specs.Answers.{logic_line_of, start_of};
 ghost use Rattle.reader.specs.Sections.{start_part};
 
 use crate::first_lines::count_line;
@@ -12,7 +12,7 @@ use crate::{NumberLine, Start};
 
 // The number of the logic that a line tells.
 fn logic_line(text: &[u8]) -> NumberLine
-    ensures { result ≡ logicLineOf (shaped_as (λ l. 0) (logic_word (value_of (bytes "logic=") text.now))) }
+    ensures { result ≡ logic_line_of (shaped_as (λ l. 0) (logic_word (value_of (bytes "logic=") text.now))) }
 {
     let value = lines::value_of(text, b"logic=");
     let number = lines::logic_number(value);

@@ -1,11 +1,11 @@
 -- Where a line stops is told by its own bytes: nothing behind its LF matters. One law for each part of a line.
 use Rattle.std.specs.Prelude.{ℕ, zero, suc, ◌+◌, ◌≤◌, ◌<◌, ◌≡◌, refl, List, [], ◌∷◌, ◌++◌, Bool, true, false, cond, eqb, length, drop}
 use Prim.Native.String.{String}
-use Rattle.std.proofs.Common.{sym, ap, ◌∙◌, arith, ne_eqb}
+use Rattle.std.proofs.Common.{sym, ap, arith, ne_eqb}
 use Rattle.std.proofs.lemmas.Bool.{eqb-false}
 use Rattle.scope.specs.Logic.Form.{both}
 use Rattle.scope.specs.File.Number.{is_digit}
-use Rattle.scope.specs.File.Stops.{byte_stop, word_stop, end_stop, most_digits, digits_up_to, number_stop, stopped_at, digits_stop, items_stop, larger}
+use Rattle.scope.specs.File.Stops.{byte_stop, word_stop, end_stop, most_digits, digits_up_to, number_stop, stopped_at, digits_stop, items_stop}
 use Rattle.scope.specs.File.Line.{Line, line_stop}
 use Rattle.scope.specs.File.Kinds.{Kind, kind_in, logic_kinds, kind_stop, kinds_stop}
 use Rattle.scope.specs.File.Bytes.{bytes}

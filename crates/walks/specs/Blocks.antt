@@ -1,6 +1,6 @@
 -- The entries of a table at a place, w of them, whatever the width w: what is read there (`block_at`), and what a write makes of it: of one entry (`block_set`), of all
 -- (`block_put`), of entries elsewhere (`block_same`, and `Same` for those below a place).
-use Rattle.std.specs.Prelude.{ℕ, zero, suc, ◌+◌, ◌*◌, ◌<◌, ◌≤◌, ◌≡◌, refl, Bool, true, false, List, eqb, set, replicate}
+use Rattle.std.specs.Prelude.{ℕ, suc, ◌+◌, ◌*◌, ◌<◌, ◌≤◌, ◌≡◌, refl, Bool, true, false, List, eqb, set, replicate}
 use Rattle.std.proofs.Math.Path.{sym, subst}
 use Rattle.std.proofs.Common.{◌∙◌, arith, zero-add, suc-mul, eqb-true, length-set, get_or-set_same, get_or-set_other}
 use Rattle.std.proofs.Math.Nat.{mul-le-mul_right}

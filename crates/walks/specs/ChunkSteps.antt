@@ -4,7 +4,6 @@ use Rattle.std.proofs.Math.Path.{ap}
 use Rattle.std.proofs.Common.{◌∙◌, arith}
 use Rattle.std.proofs.Math.ListN.{length, length-append}
 use Rattle.scope.specs.Logic.Form.{Form}
-use Rattle.scope.specs.Logic.Facts as Fact
 use Rattle.scope.specs.Logic.Facts.{Fact}
 use Rattle.scope.specs.Logic.Obligation as O
 use Rattle.scope.specs.Limits.{most_worlds, most_clauses, most_open, most_chunks}

@@ -6,7 +6,6 @@ use Rattle.std.proofs.Math.Bool.{true}
 use mathlib.Core.List.{List, [], ◌∷◌, ◌++◌, map}
 use Rattle.std.proofs.Math.Dec.{eqb}
 use Rattle.std.proofs.Math.ListN.{length, length-append}
-use Rattle.scope.specs.Logic.Facts as Fact
 use Rattle.scope.specs.Logic.Facts.{Fact}
 use Rattle.scope.specs.Limits.{most_open}
 use Rattle.scope.specs.Logic.Obligation as O

@@ -8,7 +8,6 @@ use native.Mathlib.Omega.{arith}
 use Rattle.std.proofs.Math.ListN.{get_or, get_elem?}
 use Rattle.std.proofs.Common.{leb-true, leb-false}
 use Rattle.scope.specs.Logic.Form.{Form, is_sf}
-use Rattle.scope.specs.Logic.Facts as Fact
 use Rattle.scope.specs.Logic.Facts.{Fact}
 use Rattle.scope.specs.Limits.{most_worlds, most_open}
 use Rattle.scope.specs.Logic.Obligation as O

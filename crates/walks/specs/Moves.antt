@@ -96,7 +96,7 @@ module _ {T : Reading} {rows cl ats ch sv : List ℕ} {stack : Stack} {es : List
   pub moved_less : {f h : ℕ} → f < T.formulas → h < T.formulas →
       Related T (moved (unit_of T) (state_of rows stack (suc n) cl ats) (move.Less f h))
       (ob (seq T (suc (suc m)) (le u (suc m) ∷ fs) ls) (chunks (T.tree f) [] (lab (T.tree h) (suc m))) ∷ waiting)
-  unfolding change_of chunks_after rows_after goal_in met_in chunks_of numbers.newWorld
+  unfolding change_of chunks_after rows_after goal_in met_in chunks_of numbers.new_world
   moved_less {f} {h} p q =
       let low : c ≤ c = omega arith in
       let old : suc m ≤ suc m = omega arith in
@@ -119,7 +119,7 @@ module _ {T : Reading} {rows cl ats ch sv : List ℕ} {stack : Stack} {es : List
   pub moved_speak : {a f : ℕ} → a < T.principals → f < T.formulas →
       Related T (moved (unit_of T) (state_of rows stack (suc n) cl ats) (move.Speak (principal a) f))
       (ob (seq T (suc (suc m)) (by a u (suc m) ∷ fs) ls) (goal (lab (T.tree f) (suc m))) ∷ waiting)
-  unfolding change_of chunks_after rows_after goal_in met_in numbers.newWorld
+  unfolding change_of chunks_after rows_after goal_in met_in numbers.new_world
   moved_speak {a} {f} p q =
       let low : c ≤ c = omega arith in
       let old : suc m ≤ suc m = omega arith in
@@ -169,7 +169,7 @@ module _ {T : Reading} {rows cl ats ch sv : List ℕ} {stack : Stack} {es : List
 
   pub moved_drop : Related T (moved (unit_of T) now move.Drop)
       (ob here (behind rest aim) ∷ waiting)
-  unfolding change_of chunks_after rows_after numbers.popped numbers.chunkCount goal_in
+  unfolding change_of chunks_after rows_after numbers.popped numbers.chunk_count goal_in
   moved_drop =
       let low : c ≤ c = omega arith in
       let less : i ≤ suc i = omega arith in
@@ -182,7 +182,7 @@ module _ {T : Reading} {rows cl ats ch sv : List ℕ} {stack : Stack} {es : List
   pub moved_note : {a b : ℕ} → a < T.principals → b < T.principals →
       Related T (moved (unit_of T) now (move.Note (principal a) (principal b)))
       (ob (seq T (suc m) (sf u a b ∷ fs) ls) (behind rest aim) ∷ waiting)
-  unfolding change_of chunks_after rows_after numbers.popped numbers.chunkCount goal_in
+  unfolding change_of chunks_after rows_after numbers.popped numbers.chunk_count goal_in
   moved_note {a} {b} p q =
       let low : c ≤ c = omega arith in
       let less : i ≤ suc i = omega arith in
@@ -201,7 +201,7 @@ module _ {T : Reading} {rows cl ats ch sv : List ℕ} {stack : Stack} {es : List
   pub moved_push : c < most_clauses →
       Related T (moved (unit_of T) now move.Push)
       (ob (seq T (suc m) fs (ls ++ (lab (T.tree (get_or ch i 0)) u ∷ []))) (behind rest aim) ∷ waiting)
-  unfolding change_of chunks_after rows_after numbers.popped numbers.chunkCount goal_in
+  unfolding change_of chunks_after rows_after numbers.popped numbers.chunk_count goal_in
   moved_push room =
       let low : c ≤ c = omega arith in
       let up : c ≤ suc c = omega arith in
@@ -221,7 +221,7 @@ module _ {T : Reading} {rows cl ats ch sv : List ℕ} {stack : Stack} {es : List
 
   pub moved_split : {f h : ℕ} → f < T.formulas → h < T.formulas → suc i < most_chunks →
       Related T (moved (unit_of T) now (move.Split f h)) (ob here (chunks (T.tree f) (T.tree h ∷ rest) aim) ∷ waiting)
-  unfolding change_of chunks_after split_chunks rows_after numbers.oneMore numbers.chunkCount goal_in chunks_of met_in
+  unfolding change_of chunks_after split_chunks rows_after numbers.one_more numbers.chunk_count goal_in chunks_of met_in
   moved_split {f} {h} p q room =
       let low : c ≤ c = omega arith in
       let over : i ≤ i = omega arith in
@@ -255,7 +255,7 @@ module _ {T : Reading} {rows cl ats ch sv : List ℕ} {stack : Stack} {es : List
 
   pub moved_case : {f h : ℕ} → f < T.formulas → h < T.formulas → suc n < most_open →
       Related T (moved (unit_of T) now (move.Case f h)) (ob here (chunks (T.tree f) rest aim) ∷ ob here (chunks (T.tree h) rest aim) ∷ waiting)
-  unfolding change_of chunks_after case_chunks rows_after numbers.chunkCount met_in
+  unfolding change_of chunks_after case_chunks rows_after numbers.chunk_count met_in
   moved_case {f} {h} p q room =
       let inner : n < places = omega (arith, frame.room) in
       moved_fork frame down (move.Case f h) refl (rw (one_less i, add-one) refl)

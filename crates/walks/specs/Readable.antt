@@ -5,7 +5,7 @@ use Rattle.std.proofs.Common.{arith, get_or-take}
 use Rattle.scope.specs.Logic.Form.{Form, top}
 use Rattle.scope.specs.File.Request.{Row, row_form, forms_after, formula}
 use Rattle.scope.specs.File.Kinds.{kind_in, form_kinds}
-use Rattle.scope.specs.Call.Tables.{Lent, form_entry, unpack, request_of}
+use Rattle.scope.specs.Call.Tables.{Lent, form_entry, unpack}
 use Rattle.scope.specs.Tools.Unpack.{unpack_length}
 use Rattle.trip.specs.RowRanges as ranges
 use Rattle.moves.specs.Judge.{row_at}

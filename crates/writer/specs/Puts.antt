@@ -1,5 +1,5 @@
 -- A text put into the output from a place on: a byte is stored only where there is one, and the place counts on all the same.
-use Rattle.std.specs.Prelude.{ℕ, zero, suc, ◌+◌, ◌-◌, ◌≤◌, ◌<◌, ◌≡◌, refl, List, [], ◌∷◌, ◌++◌, length, drop, set, replicate}
+use Rattle.std.specs.Prelude.{ℕ, zero, suc, ◌+◌, ◌-◌, ◌≤◌, ◌≡◌, refl, List, [], ◌∷◌, ◌++◌, length, drop, set, replicate}
 use Rattle.std.proofs.Common.{add-suc, suc-add, add-zero, le_trans, arith, ap, sym, ◌∙◌, length-append}
 use Rattle.std.proofs.Math.Nat.{sub-zero, zero-sub, suc-sub-suc}
 use Rattle.std.proofs.lemmas.List.{length-replicate}

@@ -10,7 +10,7 @@ use Rattle.scope.specs.File.Text.{request_text}
 use Rattle.scope.specs.Call.Tables.{Lent, request_of, padded}
 use Rattle.scope.specs.Call.Checked.{checked}
 use Rattle.scope.specs.Call.Calls.{Written, written_if, writing, text_in, output_after}
-use Rattle.common.specs.Answers.{answer_of, answerIs}
+use Rattle.common.specs.Answers.{answer_of, answer_is}
 use Rattle.common.specs.declared.Answer.{Answer as Returned}
 use Rattle.checks.specs.declared.Checked.{Checked}
 use Rattle.checks.specs.declared.Checked.TheVariants.{Fine, Refused}
@@ -30,12 +30,12 @@ zeros_left : (len : ℕ) (w : Written) → text_in w ≡ [] → replicate len 0 
 unfolding output_after padded
 zeros_left len w e = rw e (ap (λ (n : ℕ). replicate n 0) (sym (sub-zero len)))
 
-if_refused : (a : Answer) (s : List ℕ) (len : ℕ) (r : Returned) → checked_of a ≡ Refused r → written_if a s len ≡ refused (answerIs r)
+if_refused : (a : Answer) (s : List ℕ) (len : ℕ) (r : Returned) → checked_of a ≡ Refused r → written_if a s len ≡ refused (answer_is r)
 unfolding checked_of written_if
 if_refused (told zero place column) s len r e = never cc
 if_refused (told (suc k) place column) s len r e =
     let f : answer_of (told (suc k) place column) ≡ r = cc in
-    ap (λ x. refused (answerIs x)) f
+    ap (λ x. refused (answer_is x)) f
 
 if_fits : (a : Answer) (s : List ℕ) (len : ℕ) → checked_of a ≡ Fine → length s ≤ len → written_if a s len ≡ result s
 unfolding checked_of written_if
@@ -56,7 +56,7 @@ pub ends_refused : (t : Lent) (len : ℕ) (c : Checked) (r : Returned) → c ≡
     (refused_as c ≡ writing_of (writing t len)) × (replicate len 0 ≡ output_after len (writing t len))
 unfolding refused_as writing_of result_answer text_in refusal_in place_in
 ends_refused t len c r e f =
-    let w : writing t len ≡ refused (answerIs r) =
+    let w : writing t len ≡ refused (answer_is r) =
     writing_is t len ∙ if_refused (checked t) (request_text (request_of t)) len r (sym e ∙ f) in
     (ap refused_as f ∙ ap writing_of (sym w), zeros_left len (writing t len) (ap text_in w))
 

@@ -38,6 +38,7 @@ pub(crate) fn put_logic(out: &mut [u8], at: usize, logic: u16) -> usize
     put_bytes(out, at, b"logic=unit\n")
 }
 
+#[tactic(auto, unfolding(scope::specs::File::Kinds::kind_in, scope::specs::File::Kinds::form_kinds))]
 fn put_form_word(out: &mut [u8], at: usize, kind: u16) -> usize
     requires { at < 9980000 }
     ensures { Puts out.old at (kind_in form_kinds kind).word 16 out.new result }
@@ -55,6 +56,7 @@ fn put_form_word(out: &mut [u8], at: usize, kind: u16) -> usize
     }
 }
 
+#[tactic(auto, unfolding(scope::specs::File::Kinds::kind_in, scope::specs::File::Kinds::form_kinds))]
 fn form_operands(kind: u16) -> u16
     ensures { result ≡ length (kind_in form_kinds kind).operands }
 {
@@ -69,6 +71,7 @@ fn form_operands(kind: u16) -> u16
     }
 }
 
+#[tactic(auto, unfolding(scope::specs::File::Kinds::kind_in, scope::specs::File::Kinds::step_kinds))]
 fn step_operands(kind: u16) -> u16
     ensures { result ≡ length (kind_in step_kinds kind).operands }
 {
@@ -112,6 +115,7 @@ pub(crate) fn put_form(out: &mut [u8], at: usize, kind: u16, left: u16, right: u
     put_byte(out, end, 10)
 }
 
+#[tactic(auto, unfolding(scope::specs::File::Kinds::kind_in, scope::specs::File::Kinds::step_kinds))]
 fn put_step_word(out: &mut [u8], at: usize, kind: u16) -> usize
     requires { at < 9980000 }
     ensures { Puts out.old at (kind_in step_kinds kind).word 16 out.new result }

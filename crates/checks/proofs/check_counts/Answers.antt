@@ -1,3 +1,4 @@
+-- `checks::check_counts` meets its contract: the first count out of range is the answer, and the last one decides where the others are fine.
 use mathlib.Core.Path.{◌≡◌, ◌∙◌, sym}
 use mathlib.Core.List.{[], ◌∷◌}
 use Rattle.scope.specs.Call.Answer.{answer}
@@ -5,12 +6,11 @@ use Rattle.scope.specs.Limits.{principals_at, atoms_at, formulas_at}
 use Rattle.scope.specs.File.Refusals.{principals_refusal, atoms_refusal, formulas_refusal}
 use Rattle.checks.specs.Met.{checked_of}
 use Rattle.checks.specs.MetLaws.{met_one, one_stop, one_go}
-use Rattle.checks.specs.Answers.{countAnswers}
+use Rattle.checks.specs.Answers.{count_answers}
 use Rattle.checks.proofs.check_counts.Goals as goal
 
--- `checks::check_counts` meets its contract: the first count out of range is the answer, and the last one decides where the others are fine.
 pub returns-in_default : goal.returns-in_default
-unfolding countAnswers
+unfolding count_answers
 returns-in_default c =
     let a = c.args in
     let principals = answer (principals_refusal a.principals) principals_at in
@@ -21,7 +21,7 @@ returns-in_default c =
     one_stop principals (atoms ∷ formulas ∷ []) g.result c.in_default.field-0 e c.in_default.is
 
 pub returns-in_default-second : goal.returns-in_default-second
-unfolding countAnswers
+unfolding count_answers
 returns-in_default-second c =
     let a = c.args in
     let principals = answer (principals_refusal a.principals) principals_at in
@@ -35,7 +35,7 @@ returns-in_default-second c =
     one_go principals (atoms ∷ formulas ∷ []) g.result e c.in-Fine.is
 
 pub returns : goal.returns
-unfolding countAnswers
+unfolding count_answers
 returns c =
     let a = c.args in
     let principals = answer (principals_refusal a.principals) principals_at in

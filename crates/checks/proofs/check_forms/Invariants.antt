@@ -1,10 +1,9 @@
+-- `checks::check_forms` meets its contract: in turn i the answers about the first i formulas are fine and the slots keep their rows, and
+-- answer i is that about row i.
 use Prim.Native.Nat.{◌-◌}
-use Rattle.scope.specs.Call.Answer.{answer}
 use Rattle.checks.specs.FormTurns.{FormsPassed}
 use Rattle.checks.proofs.check_forms.Given as goal
 
--- `checks::check_forms` meets its contract: in turn i the answers about the first i formulas are fine and the slots keep their rows, and
--- answer i is that about row i.
 abbrev pub invariant-loop-i : goal.invariant-loop-i
 invariant-loop-i l = FormsPassed l.principals l.atoms l.count l.forms l.slots l.i
 

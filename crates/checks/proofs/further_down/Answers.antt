@@ -1,10 +1,10 @@
+-- `checks::further_down` meets its contract: a place that is near has room for the lines above it.
 use native.Mathlib.Omega.{arith}
 use Prim.Native.Nat.{◌≤◌}
 use mathlib.Core.Path.{refl}
 use Rattle.checks.specs.Met.{down_of, place_of}
 use Rattle.checks.proofs.further_down.Goals as goal
 
--- `checks::further_down` meets its contract: a place that is near has room for the lines above it.
 pub overflow_add-result : goal.overflow_add-result
 unfolding place_of
 overflow_add-result c =

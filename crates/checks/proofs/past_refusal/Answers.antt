@@ -1,8 +1,8 @@
+-- `checks::past_refusal` meets its contract: the three demands are one demand that all three hold.
 use Rattle.checks.specs.Met.{lent_with}
 use Rattle.checks.specs.Sections.{past_asked}
 use Rattle.checks.proofs.past_refusal.Goals as goal
 
--- `checks::past_refusal` meets its contract: the three demands are one demand that all three hold.
 pub returns : goal.returns
 returns c =
     let a = c.args in

@@ -1,4 +1,3 @@
-use Prim.Native.Nat.{◌-◌}
 use mathlib.Core.Path.{sym, ◌∙◌}
 use Rattle.checks.specs.Sections.{zeros_more, zeros_stop, zeros_end}
 use Rattle.checks.proofs.zero_from.Goals as goal

@@ -1,3 +1,4 @@
+-- `classes::byte_of` meets its contract: a bit is at most 1, so the sum of the four is at most 15.
 use native.Mathlib.Omega.{arith}
 use Rattle.classes.specs.Class.{class_byte}
 use Rattle.classes.specs.Laws.{bit_small}

@@ -1,3 +1,4 @@
+-- `classes::class_at` meets its contract: past the count or the slice there is no entry, and below both the entry is the slice's own.
 use native.Mathlib.Omega.{arith}
 use lib.ListN.{take, get_or-eq_default, length-take}
 use lib.Seq.{get_or-take}
@@ -5,7 +6,6 @@ use mathlib.Core.Path.{sym, ◌∙◌}
 use Rattle.classes.specs.Rows.{get_d_any}
 use Rattle.classes.proofs.class_at.Goals as goal
 
--- `classes::class_at` meets its contract: past the count or the slice there is no entry, and below both the entry is the slice's own.
 pub returns-then-count-formula : goal.returns-then-count-formula
 returns-then-count-formula c = sym (get_or-eq_default (take c.args.count c.args.classes.now) 15 (simp length-take (omega arith)))
 

@@ -1,5 +1,5 @@
 use native.Mathlib.Omega.{arith}
-use Prim.Native.Nat.{◌-◌, ◌*◌, ◌+◌}
+use Prim.Native.Nat.{◌*◌, ◌+◌}
 use lib.ListN.{get_or, take}
 use mathlib.Core.Path.{◌≡◌, sym}
 use Rattle.classes.proofs.Filling.{filled_none, filled_more, filled_whole}

@@ -1,3 +1,5 @@
+-- `classes::imp_class` meets its contract: each class is asked as the definition asks it. The two answers are named first, so that a byte
+-- made of others is refused for its classes.
 use mathlib.Core.Path.{◌≡◌}
 use Rattle.scope.specs.Logic.Form.{both}
 use Rattle.classes.specs.Class.{goal_in, clause_in, chunk_in, imp_class}

@@ -1,3 +1,4 @@
+-- `classes::or_class` meets its contract: each class is asked as the definition asks it.
 use Rattle.classes.specs.Class.{or_class}
 use Rattle.classes.proofs.or_class.Goals as goal
 

@@ -1,3 +1,4 @@
+-- `classes::row_class` meets its contract: arm by arm, the kind picks the class from the definition's list.
 use Rattle.classes.specs.Class.{row_class}
 use Rattle.classes.specs.Laws.{other_class}
 use Rattle.classes.proofs.row_class.Goals as goal

@@ -1,8 +1,8 @@
+-- `columns::end_stop` meets its contract: the LF stands at the front, or another byte, or none.
 use Rattle.columns.specs.Places.{end_none, end_met, end_other}
 use native.Mathlib.Omega.{arith}
 use Rattle.columns.proofs.end_stop.Goals as goal
 
--- `columns::end_stop` meets its contract: the LF stands at the front, or another byte, or none.
 pub returns-then-text-eq0 : goal.returns-then-text-eq0
 returns-then-text-eq0 c = end_none _ c.if-text-eq0.true
 

@@ -1,3 +1,4 @@
+-- `columns::form_line` meets its contract: a key that breaks off stands as far as its bytes do, and behind it stands the kind that goes furthest.
 use Rattle.scope.specs.File.Bytes.{bytes}
 use Rattle.scope.specs.File.Kinds.{form_kinds, kinds_stop}
 use Rattle.scope.specs.File.Line.{line_stop}

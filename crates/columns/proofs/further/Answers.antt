@@ -1,3 +1,4 @@
+-- `columns::further` meets its contract: a word that breaks off stands as far as its bytes do, and behind a whole word stand its items.
 use mathlib.Core.Path.{ap, ◌∙◌}
 use Rattle.scope.specs.File.Stops.{items_stop, larger}
 use Rattle.columns.specs.Places.{front_short, front_whole, front_within, part_within}

@@ -1,7 +1,7 @@
+-- `columns::larger_of` meets its contract: the test is the definition's own.
 use Rattle.columns.specs.Places.{larger_first, larger_second}
 use Rattle.columns.proofs.larger_of.Goals as goal
 
--- `columns::larger_of` meets its contract: the test is the definition's own.
 pub returns-then-a-b : goal.returns-then-a-b
 returns-then-a-b c = larger_second _ _ c.if-a-b.true
 

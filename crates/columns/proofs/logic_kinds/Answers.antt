@@ -1,3 +1,4 @@
+-- `columns::logic_kinds` meets its contract: each word is tried, the last one first, and the furthest of them kept.
 use mathlib.Core.Path.{◌≡◌, refl}
 use lib.ListN.{drop}
 use Rattle.scope.specs.File.Kinds.{kind_in, logic_kinds, kind_stop, kinds_stop}
@@ -5,7 +6,6 @@ use Rattle.columns.specs.Places.{kinds_at}
 use native.Mathlib.Omega.{arith}
 use Rattle.columns.proofs.logic_kinds.Goals as goal
 
--- `columns::logic_kinds` meets its contract: each word is tried, the last one first, and the furthest of them kept.
 pub returns : goal.returns
 unfolding kinds_stop kind_stop kind_in logic_kinds
 returns c =

@@ -1,3 +1,5 @@
+-- `columns::number_line` meets its contract: a key that breaks off stands as far as its bytes do; behind it stand the digits, and behind some
+-- digits the LF.
 use Prim.Native.Nat.{◌+◌, ◌-◌}
 use mathlib.Core.Path.{◌≡◌, sym, ◌∙◌}
 use lib.ListN.{length, take, drop}

@@ -1,3 +1,4 @@
+-- `columns::number_stop` meets its contract: every byte of a number can stand, and of another text the number reader says where it stops.
 use mathlib.Core.Path.{sym, ◌∙◌}
 use Rattle.columns.specs.Places.{value_stop, bad_stop}
 use Rattle.columns.proofs.number_stop.Goals as goal

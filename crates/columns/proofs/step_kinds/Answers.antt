@@ -1,3 +1,4 @@
+-- `columns::step_kinds` meets its contract: each word is tried, the last one first, and the furthest of them kept.
 use mathlib.Core.Path.{◌≡◌, refl}
 use lib.ListN.{drop}
 use Rattle.scope.specs.File.Kinds.{kind_in, step_kinds, kind_stop, kinds_stop}

@@ -1,4 +1,3 @@
-use Prim.Native.Nat.{◌-◌}
 use Rattle.columns.specs.Places.{word_goes, word_other, word_ended, word_done}
 use native.Mathlib.Omega.{arith}
 use Rattle.columns.proofs.word_stop.Goals as goal

@@ -1,3 +1,4 @@
+-- `common::entry_at` meets its contract: past the end there is no entry, which reads as 0.
 use lib.ListN.{get_or-eq_default}
 use mathlib.Core.Path.{sym}
 use Rattle.common.proofs.entry_at.Goals as goal

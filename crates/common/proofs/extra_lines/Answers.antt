@@ -1,8 +1,8 @@
+-- `common::extra_lines` meets its contract: version 2 has one line more, every other none.
 use mathlib.Core.Path.{refl}
 use borrow.Author.Tests.{ne_eqb}
 use Rattle.common.proofs.extra_lines.Goals as goal
 
--- `common::extra_lines` meets its contract: version 2 has one line more, every other none.
 pub returns-then-version-eq2 : goal.returns-then-version-eq2
 returns-then-version-eq2 c = rw c.if-version-eq2.true refl
 

@@ -1,3 +1,4 @@
+-- `common::has_room` meets its contract: each table is asked for the room of its largest count.
 use mathlib.Core.Path.{refl}
 use Prim.Native.Nat.{◌*◌}
 use borrow.Author.Tests.{le-leb, lt-leb}
@@ -6,7 +7,6 @@ use Rattle.scope.specs.Limits.{most_formulas, most_policy_lines, most_steps}
 use Rattle.scope.specs.Call.Tables.{has_room}
 use Rattle.common.proofs.has_room.Goals as goal
 
--- `common::has_room` meets its contract: each table is asked for the room of its largest count.
 pub returns-then-forms-lt-FORM_ROOM : goal.returns-then-forms-lt-FORM_ROOM
 unfolding has_room both
 returns-then-forms-lt-FORM_ROOM c = rw (lt-leb (3 * most_formulas) c.args.forms c.if-forms-lt-FORM_ROOM.true) refl

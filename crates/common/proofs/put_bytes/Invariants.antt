@@ -1,11 +1,11 @@
+-- `common::put_bytes` meets its contract: in turn i what is left of the text, put from there on, gives the whole text put; past the end
+-- nothing is left to store.
 use Prim.Native.Nat.{◌+◌, ◌-◌, ◌≤◌}
 use mathlib.Core.Path.{◌≡◌}
 use lib.ListN.{length, drop}
 use lib.Seq.{sets}
 use Rattle.common.proofs.put_bytes.Given as goal
 
--- `common::put_bytes` meets its contract: in turn i what is left of the text, put from there on, gives the whole text put; past the end
--- nothing is left to store.
 abbrev pub invariant-loop-i : goal.invariant-loop-i
 invariant-loop-i l = (l.i ≤ length l.text) × (sets l.out (l.at + l.i) (drop l.i l.text) ≡ sets l.initial.out l.at l.text) × (length l.out ≡ length l.initial.out)
 

@@ -1,3 +1,4 @@
+-- `common::put_entry` meets its contract: a store past the end changes nothing.
 use lib.Seq.{set_out}
 use mathlib.Core.Path.{sym}
 use Rattle.common.proofs.put_entry.Goals as goal

@@ -1,3 +1,4 @@
+-- `facts::bit_of` meets its contract: below the width the shift and the remainder are the bit, and past it there is none.
 use Rattle.facts.specs.Rows.{worlds_max}
 use Rattle.facts.specs.Bits.{bit_shifted, bit_past}
 use Rattle.facts.proofs.bit_of.Goals as goal

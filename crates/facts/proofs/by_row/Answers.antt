@@ -1,3 +1,4 @@
+-- `facts::by_row` meets its contract: the test is the definition's own.
 use Rattle.facts.specs.Rows.{by_row}
 use borrow.Author.Tests.{lt-ltb, le-ltb}
 use Rattle.facts.proofs.by_row.Goals as goal

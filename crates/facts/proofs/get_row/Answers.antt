@@ -1,3 +1,4 @@
+-- `facts::get_row` meets its contract: past the end a list reads as the default.
 use lib.ListN.{get_or-eq_default}
 use mathlib.Core.Path.{sym}
 use Rattle.facts.proofs.get_row.Goals as goal

@@ -1,3 +1,4 @@
+-- `facts::grow_by` meets its contract: after c turns the first c principals have their row of S to the new world.
 use Rattle.facts.specs.Rows.{principals_max, seen_row}
 use Rattle.facts.specs.Bits.{when}
 use Rattle.facts.specs.Fill.{fill}
@@ -7,7 +8,6 @@ use mathlib.Core.Path.{◌≡◌}
 use Prim.Native.Nat.{ℕ, ◌+◌, ◌≤◌, ◌-◌}
 use Rattle.facts.proofs.grow_by.Given as goal
 
--- `facts::grow_by` meets its contract: after c turns the first c principals have their row of S to the new world.
 abbrev pub invariant-loop-c : goal.invariant-loop-c
 invariant-loop-c l =
     (l.c ≤ principals_max) ×

@@ -3,7 +3,7 @@ use Rattle.facts.specs.NewRows.{over_turn}
 use Rattle.facts.specs.Grown.{stored_le}
 use Rattle.facts.specs.Fill.{fill}
 use mathlib.Core.Path.{◌≡◌, refl}
-use Prim.Native.Nat.{◌<◌, ◌-◌}
+use Prim.Native.Nat.{◌<◌}
 use native.Mathlib.Omega.{arith}
 use Rattle.facts.proofs.grow_le.Goals as goal
 

@@ -1,3 +1,4 @@
+-- `facts::has_by` meets its contract: it asks the bit that the definition asks.
 use Rattle.facts.specs.Rows.{told}
 use Rattle.facts.proofs.has_by.Goals as goal
 

@@ -1,3 +1,4 @@
+-- `facts::new_world` meets its contract: the stores are the definition's, one after the other.
 use Rattle.facts.specs.Rows.{new_world}
 use Rattle.facts.proofs.new_world.Goals as goal
 

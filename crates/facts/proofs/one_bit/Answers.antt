@@ -1,3 +1,4 @@
+-- `facts::one_bit` meets its contract: below the width the shift of 1 loses nothing.
 use Rattle.facts.specs.Rows.{worlds_max}
 use Rattle.facts.specs.Bits.{one_shifted, one_past}
 use Rattle.facts.proofs.one_bit.Goals as goal

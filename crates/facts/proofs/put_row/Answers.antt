@@ -1,3 +1,4 @@
+-- `facts::put_row` meets its contract: a store past the end changes nothing.
 use lib.Seq.{set_out}
 use mathlib.Core.Path.{sym}
 use Rattle.facts.proofs.put_row.Goals as goal

@@ -2,7 +2,6 @@ use Rattle.facts.specs.Rows.{principals_max}
 use Rattle.facts.specs.Kept.{stored_back}
 use Rattle.facts.specs.Fill.{fill, fill_more}
 use mathlib.Core.Path.{◌≡◌, refl}
-use Prim.Native.Nat.{◌-◌}
 use native.Mathlib.Omega.{arith}
 use Rattle.facts.proofs.put_sf.Goals as goal
 

@@ -3,7 +3,7 @@ use Rattle.facts.specs.Rows.{principals_max, rows_max, le_at, up_at, sf_at, with
 use Rattle.facts.specs.Fill.{fill, fill_more}
 use lib.ListN.{set, replicate}
 use mathlib.Core.Path.{◌≡◌, refl}
-use Prim.Native.Nat.{ℕ, ◌-◌}
+use Prim.Native.Nat.{ℕ}
 use native.Mathlib.Omega.{arith}
 use Rattle.facts.proofs.root_rows.Goals as goal
 

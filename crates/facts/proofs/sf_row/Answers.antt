@@ -1,3 +1,4 @@
+-- `facts::sf_row` meets its contract: the test is the definition's own.
 use Rattle.facts.specs.Rows.{sf_row}
 use borrow.Author.Tests.{lt-ltb, le-ltb}
 use Rattle.facts.proofs.sf_row.Goals as goal

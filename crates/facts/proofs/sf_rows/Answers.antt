@@ -1,7 +1,6 @@
 use Rattle.facts.specs.Rows.{principals_max, sf_rows}
 use Rattle.facts.specs.Fill.{fill, fill_front}
 use mathlib.Core.Path.{◌≡◌, refl}
-use Prim.Native.Nat.{◌-◌}
 use native.Mathlib.Omega.{arith}
 use Rattle.facts.proofs.sf_rows.Goals as goal
 

@@ -1,4 +1,3 @@
-use Prim.Native.Nat.{◌-◌}
 use mathlib.Core.Path.{refl, sym, ◌∙◌}
 use Rattle.lines.specs.Codes.{code_goes, code_ends, code_long, code_short, code_fits, code_grows}
 use native.Mathlib.Omega.{arith}

@@ -1,4 +1,3 @@
-use Prim.Native.Nat.{◌-◌}
 use Rattle.lines.specs.Parts.{up_to_stops, up_to_goes, up_to_ends}
 use native.Mathlib.Omega.{arith}
 use Rattle.lines.proofs.find_byte.Goals as goal

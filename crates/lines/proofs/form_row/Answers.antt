@@ -1,3 +1,4 @@
+-- `lines::form_row` meets its contract: the codes and counts that it has are, computed, those of the kinds of formulas.
 use mathlib.Core.Path.{sym, ◌∙◌}
 use lib.Seq.{length-take-le}
 use Rattle.scope.specs.File.Kinds.{form_kinds}

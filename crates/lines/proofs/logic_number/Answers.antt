@@ -1,8 +1,8 @@
+-- `lines::logic_number` meets its contract: the value is compared with each word, in their order.
 use mathlib.Core.Path.{sym, ◌∙◌}
 use Rattle.lines.specs.Words.{plain_found, unit_found, no_logic}
 use Rattle.lines.proofs.logic_number.Goals as goal
 
--- `lines::logic_number` meets its contract: the value is compared with each word, in their order.
 pub returns-then-same_word : goal.returns-then-same_word
 returns-then-same_word c = plain_found c.args.value.now (sym c.same_word.ensures ∙ c.if-same_word.true)
 

@@ -1,8 +1,8 @@
+-- `lines::most_digits` meets its contract: it asks of the first byte what the definition asks.
 use Rattle.lines.specs.Stop.{most_none, most_one, most_more}
 use native.Mathlib.Omega.{arith}
 use Rattle.lines.proofs.most_digits.Goals as goal
 
--- `lines::most_digits` meets its contract: it asks of the first byte what the definition asks.
 pub returns-then-text-eq0 : goal.returns-then-text-eq0
 returns-then-text-eq0 c = most_none c.args.text.now c.if-text-eq0.true
 

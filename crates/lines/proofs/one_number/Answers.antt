@@ -1,3 +1,4 @@
+-- `lines::one_number` meets its contract: what follows the word is read as one number, which has no space in it.
 use mathlib.Core.Path.{sym, ◌∙◌}
 use Rattle.lines.specs.Operands.{number_some, number_none, one_bad, one_found}
 use Rattle.lines.proofs.one_number.Goals as goal

@@ -1,10 +1,10 @@
-use Prim.Native.Nat.{◌+◌, ◌-◌, ◌*◌, ◌^◌, ◌≤◌, ◌<◌}
+use Prim.Native.Nat.{◌+◌, ◌*◌, ◌^◌, ◌≤◌, ◌<◌}
 use native.Mathlib.Nat.{pow-le-pow_right}
 use native.Mathlib.Numerals.{add-one}
 use mathlib.Core.Path.{◌≡◌, refl, ap, sym, ◌∙◌}
 use lib.ListN.{length, get_or}
 use Rattle.lines.specs.Stop.{most_five, digit_is, digit_low, digit_high, digits_goes, counts_on, counts_start}
-use Rattle.lines.specs.Answers.{bad-long, bad-digit, bad-empty, good-number}
+use Rattle.lines.specs.Answers.{bad_long, bad_digit, bad_empty, good_number}
 use native.Mathlib.Omega.{arith}
 use Rattle.lines.proofs.read_number.Goals as goal
 
@@ -13,7 +13,7 @@ loop-i-init c = (omega arith, omega arith, omega arith, refl, counts_start c.arg
 
 pub returns-then-most-i : goal.returns-then-most-i
 returns-then-most-i c =
-    bad-long c.args.text.now c.most_digits-most.result
+    bad_long c.args.text.now c.most_digits-most.result
     c.loop-i.i c.most_digits-most.ensures (omega arith) (omega arith)
     c.loop-i.invariant.4
 
@@ -21,7 +21,7 @@ pub returns-then-b-lt48 : goal.returns-then-b-lt48
 returns-then-b-lt48 c = let t = c.args.text.now in
     let i = c.loop-i.i in
     let h : i < length t = omega arith in
-    bad-digit t c.most_digits-most.result i
+    bad_digit t c.most_digits-most.result i
     c.most_digits-most.ensures c.loop-i.value h (omega arith)
     (digit_low (get_or t i 0) c.if-b-lt48.true) c.loop-i.invariant.3
     c.loop-i.invariant.4
@@ -30,7 +30,7 @@ pub returns-then-b-gt57 : goal.returns-then-b-gt57
 returns-then-b-gt57 c = let t = c.args.text.now in
     let i = c.loop-i.i in
     let h : i < length t = omega arith in
-    bad-digit t c.most_digits-most.result i
+    bad_digit t c.most_digits-most.result i
     c.most_digits-most.ensures c.loop-i.value h
     (omega arith) (digit_high (get_or t i 0) c.if-b-gt57.true) c.loop-i.invariant.3
     c.loop-i.invariant.4
@@ -74,10 +74,10 @@ loop-i-preserved c = let t = c.args.text.now in
     )
 
 pub returns-then-i-eq0 : goal.returns-then-i-eq0
-returns-then-i-eq0 c = bad-empty c.args.text.now (omega arith)
+returns-then-i-eq0 c = bad_empty c.args.text.now (omega arith)
 
 pub returns : goal.returns
 returns c =
-    good-number c.args.text.now c.most_digits-most.result
+    good_number c.args.text.now c.most_digits-most.result
     c.loop-i.i c.most_digits-most.ensures c.loop-i.value (omega arith)
     (omega arith) (omega arith) (omega arith) c.loop-i.invariant.3

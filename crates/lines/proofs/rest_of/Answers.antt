@@ -1,3 +1,4 @@
+-- `lines::rest_of` meets its contract: the part behind the first LF is what the definition cuts off.
 use Rattle.lines.specs.Values.{rest_none, rest_found}
 use native.Mathlib.Omega.{arith}
 use Rattle.lines.proofs.rest_of.Goals as goal

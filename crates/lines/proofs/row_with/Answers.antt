@@ -1,10 +1,10 @@
+-- `lines::row_with` meets its contract: nothing stands behind the word and none is wanted, or what stands there is read as the numbers that
+-- are.
 use mathlib.Core.Path.{◌∙◌}
 use Rattle.lines.specs.Operands.{alone_found, alone_bad, followed, followed_bad}
 use native.Mathlib.Omega.{arith}
 use Rattle.lines.proofs.row_with.Goals as goal
 
--- `lines::row_with` meets its contract: nothing stands behind the word and none is wanted, or what stands there is read as the numbers that
--- are.
 pub returns-then-wanted-eq0 : goal.returns-then-wanted-eq0
 returns-then-wanted-eq0 c =
     alone_found c.args.kind c.args.wanted

@@ -1,4 +1,3 @@
-use Prim.Native.Nat.{◌-◌}
 use mathlib.Core.Path.{refl, sym, ◌∙◌}
 use Rattle.lines.specs.Items.{same_lengths, same_goes, same_stops, same_ends}
 use native.Mathlib.Omega.{arith}

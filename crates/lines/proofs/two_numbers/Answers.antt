@@ -1,3 +1,4 @@
+-- `lines::two_numbers` meets its contract: the first space parts the two numbers, and what follows it is read as one.
 use mathlib.Core.Path.{sym, ◌∙◌}
 use lib.Seq.{length-take-le}
 use Rattle.lines.specs.Operands.{number_some, number_none, two_alone, two_first, two_last, two_found}

@@ -1,3 +1,5 @@
+-- `lines::value_of` meets its contract: the key is compared with the front of the first line, and the part from there to the LF is the
+-- value.
 use mathlib.Core.Path.{sym, ◌∙◌}
 use lib.Seq.{length-take-le}
 use Rattle.lines.specs.Values.{value_none, value_short, value_other, value_found}

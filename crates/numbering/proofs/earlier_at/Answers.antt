@@ -1,3 +1,4 @@
+-- `numbering::earlier_at` meets its contract, case by case.
 use mathlib.Core.Path.{ap, sym}
 use Rattle.numbering.specs.Slots.{earlier_at}
 use Rattle.numbering.proofs.earlier_at.Goals as goal

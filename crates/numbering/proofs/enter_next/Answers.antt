@@ -1,3 +1,4 @@
+-- `numbering::enter_next` meets its contract: the three numbers read are the row.
 use mathlib.Core.Path.{◌≡◌, ap, ◌∙◌}
 use Rattle.refusals.specs.Rows.{row}
 use Rattle.classes.specs.Rows.{form_row}

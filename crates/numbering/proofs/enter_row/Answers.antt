@@ -1,3 +1,4 @@
+-- `numbering::enter_row` meets its contract: it is `find_row`, and `keep_row` at the place found.
 use mathlib.Core.Path.{ap, ◌∙◌}
 use Rattle.numbering.specs.Slots.{earlier_at, kept_at}
 use Rattle.numbering.proofs.enter_row.Goals as goal

@@ -1,3 +1,4 @@
+-- `numbering::keep_row` meets its contract: a row that is there is not kept again, and a number that is no formula's is not kept.
 use mathlib.Core.Path.{sym, ◌∙◌}
 use Rattle.numbering.specs.Slots.{kept_taken, kept_free, kept_past}
 use Rattle.numbering.proofs.keep_row.Goals as goal

@@ -1,3 +1,5 @@
+-- `numbering::number_row` meets its contract: a row that is there keeps its number; another is put and kept as the next one, where there is
+-- room.
 use mathlib.Core.Path.{sym, ap, ◌∙◌}
 use Rattle.refusals.specs.Rows.{row}
 use Rattle.numbering.specs.Slots.{place_in, kept_at, kept_taken, kept_past}

@@ -1,3 +1,4 @@
+-- `numbering::put_row` meets its contract: three stores, one for each number of the row.
 use Rattle.refusals.specs.Rows.{row}
 use Rattle.numbering.specs.Given.{put_thrice}
 use Rattle.numbering.proofs.put_row.Goals as goal

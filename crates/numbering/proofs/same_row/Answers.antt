@@ -1,3 +1,4 @@
+-- `numbering::same_row` meets its contract: the numbers are compared one after the other, and the first two that differ decide.
 use mathlib.Core.Path.{sym, ap, ◌∙◌}
 use lib.Dec.{eqb}
 use Rattle.refusals.specs.Rows.{row}

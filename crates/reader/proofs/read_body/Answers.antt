@@ -1,214 +1,164 @@
+-- `reader::read_body` meets its contract: each section is read from where the one before it ends, and the first refusal is the answer.
 use Prim.Native.Nat.{◌≤◌}
 use mathlib.Core.Path.{ap, sym, subst, ◌∙◌}
 use lib.ListN.{length}
 use Rattle.scope.specs.Limits.{most_formulas, end_at}
 use Rattle.reader.specs.Whole.{body_request}
-use Rattle.reader.specs.Answers.{refusalIs, formulaCount, partRefused}
+use Rattle.reader.specs.Answers.{refusal_is, formula_count, part_refused}
 use Rattle.reader.specs.Outcomes.{FormulasKept, PolicyKept, StepsKept, formulas_end, formulas_place, policy_end, policy_place, steps_end, bytes_after, all_read, refused_all}
 use Rattle.reader.proofs.read_body.Goals as goal
 
 pub read_formulas-first-requires : goal.read_formulas-first-requires
 read_formulas-first-requires c = (c.requires.0, c.requires.1)
 
-pub enum_known-first : goal.enum_known-first
-enum_known-first c = c.in-Read.in-Read-own.keys1
-
-pub enum_told-1 : goal.enum_told-1
-enum_told-1 c = c.in_default.in_default-own.keys2
-
 pub part_refused-requires : goal.part_refused-requires
 part_refused-requires c = tt
 
-pub shape_of-forms-in_default : goal.shape_of-forms-in_default
-shape_of-forms-in_default c = c.read_formulas-first.auto.1.0
-
 pub returns-in_default : goal.returns-in_default
-returns-in_default c =
-    refused_all (body_request c.args.text.now)
+returns-in_default c = let all = refused_all (body_request c.args.text.now)
     c.in_default.field-0 c.part_refused.result
-    (c.part_refused.ensures ∙ ap partRefused c.in_default.is)
+    (c.part_refused.ensures ∙ ap part_refused c.in_default.is)
     (formulas_end c.args.text.now
     c.in_default.field-0
-    (sym c.read_formulas-first.ensures.value ∙ c.in_default.is))
+    (sym c.read_formulas-first.ensures.value ∙ c.in_default.is)) in
+    record { value = all.0; forms_after = all.1.0; policy_after = all.1.1.0; steps_after = all.1.1.1 }
 
 pub slice_bounds-second-count : goal.slice_bounds-second-count
 slice_bounds-second-count c = let formulas : FormulasKept c.args.text.now = record {
-      counts = c.in-Read.formulas;
-      at = c.in-Read.at;
-      is = sym c.read_formulas-first.ensures.value ∙ c.in-Read.is;
-      numbers = c.read_formulas-first.new.forms.0;
-      len = length c.args.forms.now;
-      stored = c.read_formulas-first.ensures.forms_after.0;
-    } in
-     formulas_place formulas
+  counts = c.in-Read.formulas;
+  at = c.in-Read.at;
+  is = sym c.read_formulas-first.ensures.value ∙ c.in-Read.is;
+  numbers = c.read_formulas-first.new.forms;
+  len = length c.args.forms.now;
+  stored = c.read_formulas-first.ensures.forms_after;
+} in
+    formulas_place formulas
 
 pub slice_bounds-second-start : goal.slice_bounds-second-start
 slice_bounds-second-start c = let formulas : FormulasKept c.args.text.now = record {
-      counts = c.in-Read.formulas;
-      at = c.in-Read.at;
-      is = sym c.read_formulas-first.ensures.value ∙ c.in-Read.is;
-      numbers = c.read_formulas-first.new.forms.0;
-      len = length c.args.forms.now;
-      stored = c.read_formulas-first.ensures.forms_after.0;
-    } in
-     formulas_place formulas
+  counts = c.in-Read.formulas;
+  at = c.in-Read.at;
+  is = sym c.read_formulas-first.ensures.value ∙ c.in-Read.is;
+  numbers = c.read_formulas-first.new.forms;
+  len = length c.args.forms.now;
+  stored = c.read_formulas-first.ensures.forms_after;
+} in
+    formulas_place formulas
 
 pub read_policy-middle-requires : goal.read_policy-middle-requires
 read_policy-middle-requires c = (
-  subst (λ h. formulaCount h ≤ most_formulas) c.in-Read.is
-      c.read_formulas-first.ensures.forms_after.1,
+  subst (λ h. formula_count h ≤ most_formulas) c.in-Read.is
+      c.read_formulas-first.ensures.few_formulas,
   c.requires.2,
   c.requires.3,
 )
 
-pub enum_known-middle : goal.enum_known-middle
-enum_known-middle c = c.in-Read-middle.in-Read-middle-own.keys1
-
-pub enum_told-in_default-middle : goal.enum_told-in_default-middle
-enum_told-in_default-middle c = c.in_default-middle.in_default-middle-own.keys2
-
 pub part_refused-requires-in_default-middle : goal.part_refused-requires-in_default-middle
 part_refused-requires-in_default-middle c = tt
 
-pub shape_of-forms-in_default-middle : goal.shape_of-forms-in_default-middle
-shape_of-forms-in_default-middle c =
-    c.read_formulas-first.auto.1.0
-
-pub shape_of-policy-in_default-middle : goal.shape_of-policy-in_default-middle
-shape_of-policy-in_default-middle c = c.read_policy-middle.auto.1.1.1.0
-
 pub returns-in_default-middle : goal.returns-in_default-middle
 returns-in_default-middle c = let formulas : FormulasKept c.args.text.now = record {
-      counts = c.in-Read.formulas;
-      at = c.in-Read.at;
-      is = sym c.read_formulas-first.ensures.value ∙ c.in-Read.is;
-      numbers = c.read_formulas-first.new.forms.0;
-      len = length c.args.forms.now;
-      stored = c.read_formulas-first.ensures.forms_after.0;
-    } in
-    
-    refused_all (body_request
+  counts = c.in-Read.formulas;
+  at = c.in-Read.at;
+  is = sym c.read_formulas-first.ensures.value ∙ c.in-Read.is;
+  numbers = c.read_formulas-first.new.forms;
+  len = length c.args.forms.now;
+  stored = c.read_formulas-first.ensures.forms_after;
+} in
+    let all = refused_all (body_request
     c.args.text.now)
     c.in_default-middle.field-0 c.part_refused-in_default-middle.result
-    (c.part_refused-in_default-middle.ensures ∙ ap partRefused c.in_default-middle.is)
+    (c.part_refused-in_default-middle.ensures ∙ ap part_refused c.in_default-middle.is)
     (policy_end formulas
     c.in_default-middle.field-0
-    (sym c.read_policy-middle.ensures.value ∙ c.in_default-middle.is))
+    (sym c.read_policy-middle.ensures.value ∙ c.in_default-middle.is)) in
+    record { value = all.0; forms_after = all.1.0; policy_after = all.1.1.0; steps_after = all.1.1.1 }
 
 pub slice_bounds-third-count : goal.slice_bounds-third-count
 slice_bounds-third-count c = let formulas : FormulasKept c.args.text.now = record {
-      counts = c.in-Read.formulas;
-      at = c.in-Read.at;
-      is = sym c.read_formulas-first.ensures.value ∙ c.in-Read.is;
-      numbers = c.read_formulas-first.new.forms.0;
-      len = length c.args.forms.now;
-      stored = c.read_formulas-first.ensures.forms_after.0;
-    } in
+  counts = c.in-Read.formulas;
+  at = c.in-Read.at;
+  is = sym c.read_formulas-first.ensures.value ∙ c.in-Read.is;
+  numbers = c.read_formulas-first.new.forms;
+  len = length c.args.forms.now;
+  stored = c.read_formulas-first.ensures.forms_after;
+} in
     let policy : PolicyKept formulas = record {
       counts = c.in-Read-middle.clauses;
       at = c.in-Read-middle.more;
       is = sym c.read_policy-middle.ensures.value ∙ c.in-Read-middle.is;
-      numbers = c.read_policy-middle.new.counts.1.1.0;
+      numbers = c.read_policy-middle.new.policy;
       len = length c.args.policy.now;
       stored = c.read_policy-middle.ensures.policy_after;
     } in
-     policy_place formulas policy
+    policy_place formulas policy
 
 pub slice_bounds-third-start : goal.slice_bounds-third-start
 slice_bounds-third-start c = let formulas : FormulasKept c.args.text.now = record {
-      counts = c.in-Read.formulas;
-      at = c.in-Read.at;
-      is = sym c.read_formulas-first.ensures.value ∙ c.in-Read.is;
-      numbers = c.read_formulas-first.new.forms.0;
-      len = length c.args.forms.now;
-      stored = c.read_formulas-first.ensures.forms_after.0;
-    } in
+  counts = c.in-Read.formulas;
+  at = c.in-Read.at;
+  is = sym c.read_formulas-first.ensures.value ∙ c.in-Read.is;
+  numbers = c.read_formulas-first.new.forms;
+  len = length c.args.forms.now;
+  stored = c.read_formulas-first.ensures.forms_after;
+} in
     let policy : PolicyKept formulas = record {
       counts = c.in-Read-middle.clauses;
       at = c.in-Read-middle.more;
       is = sym c.read_policy-middle.ensures.value ∙ c.in-Read-middle.is;
-      numbers = c.read_policy-middle.new.counts.1.1.0;
+      numbers = c.read_policy-middle.new.policy;
       len = length c.args.policy.now;
       stored = c.read_policy-middle.ensures.policy_after;
     } in
-    
     policy_place formulas policy
 
 pub read_proof-last-requires : goal.read_proof-last-requires
 read_proof-last-requires c =
     (c.requires.4, c.requires.5)
 
-pub enum_known-last : goal.enum_known-last
-enum_known-last c = c.in-Read-last.in-Read-last-own.keys1
-
-pub enum_told-in_default-last : goal.enum_told-in_default-last
-enum_told-in_default-last c = c.in_default-last.in_default-last-own.keys2
-
 pub part_refused-requires-in_default-last : goal.part_refused-requires-in_default-last
 part_refused-requires-in_default-last c = tt
 
-pub shape_of-forms-in_default-last : goal.shape_of-forms-in_default-last
-shape_of-forms-in_default-last c =
-    c.read_formulas-first.auto.1.0
-
-pub shape_of-policy-in_default-last : goal.shape_of-policy-in_default-last
-shape_of-policy-in_default-last c =
-    c.read_policy-middle.auto.1.1.1.0
-
-pub shape_of-steps-in_default-last : goal.shape_of-steps-in_default-last
-shape_of-steps-in_default-last c = c.read_proof-last.auto.1.1.0
-
 pub returns-in_default-last : goal.returns-in_default-last
 returns-in_default-last c = let formulas : FormulasKept c.args.text.now = record {
-      counts = c.in-Read.formulas;
-      at = c.in-Read.at;
-      is = sym c.read_formulas-first.ensures.value ∙ c.in-Read.is;
-      numbers = c.read_formulas-first.new.forms.0;
-      len = length c.args.forms.now;
-      stored = c.read_formulas-first.ensures.forms_after.0;
-    } in
+  counts = c.in-Read.formulas;
+  at = c.in-Read.at;
+  is = sym c.read_formulas-first.ensures.value ∙ c.in-Read.is;
+  numbers = c.read_formulas-first.new.forms;
+  len = length c.args.forms.now;
+  stored = c.read_formulas-first.ensures.forms_after;
+} in
     let policy : PolicyKept formulas = record {
       counts = c.in-Read-middle.clauses;
       at = c.in-Read-middle.more;
       is = sym c.read_policy-middle.ensures.value ∙ c.in-Read-middle.is;
-      numbers = c.read_policy-middle.new.counts.1.1.0;
+      numbers = c.read_policy-middle.new.policy;
       len = length c.args.policy.now;
       stored = c.read_policy-middle.ensures.policy_after;
     } in
-    
-    refused_all (body_request
+    let all = refused_all (body_request
     c.args.text.now)
     c.in_default-last.field-0 c.part_refused-in_default-last.result
-    (c.part_refused-in_default-last.ensures ∙ ap partRefused c.in_default-last.is)
+    (c.part_refused-in_default-last.ensures ∙ ap part_refused c.in_default-last.is)
     (steps_end formulas
     policy c.in_default-last.field-0
-    (sym c.read_proof-last.ensures.value ∙ c.in_default-last.is))
-
-pub shape_of-forms-then-end-third : goal.shape_of-forms-then-end-third
-shape_of-forms-then-end-third c =
-    c.read_formulas-first.auto.1.0
-
-pub shape_of-policy-then-end-third : goal.shape_of-policy-then-end-third
-shape_of-policy-then-end-third c =
-    c.read_policy-middle.auto.1.1.1.0
-
-pub shape_of-steps-then-end-third : goal.shape_of-steps-then-end-third
-shape_of-steps-then-end-third c = c.read_proof-last.auto.1.1.0
+    (sym c.read_proof-last.ensures.value ∙ c.in_default-last.is)) in
+    record { value = all.0; forms_after = all.1.0; policy_after = all.1.1.0; steps_after = all.1.1.1 }
 
 pub returns-then-end-third : goal.returns-then-end-third
 returns-then-end-third c = let formulas : FormulasKept c.args.text.now = record {
-      counts = c.in-Read.formulas;
-      at = c.in-Read.at;
-      is = sym c.read_formulas-first.ensures.value ∙ c.in-Read.is;
-      numbers = c.read_formulas-first.new.forms.0;
-      len = length c.args.forms.now;
-      stored = c.read_formulas-first.ensures.forms_after.0;
-    } in
+  counts = c.in-Read.formulas;
+  at = c.in-Read.at;
+  is = sym c.read_formulas-first.ensures.value ∙ c.in-Read.is;
+  numbers = c.read_formulas-first.new.forms;
+  len = length c.args.forms.now;
+  stored = c.read_formulas-first.ensures.forms_after;
+} in
     let policy : PolicyKept formulas = record {
       counts = c.in-Read-middle.clauses;
       at = c.in-Read-middle.more;
       is = sym c.read_policy-middle.ensures.value ∙ c.in-Read-middle.is;
-      numbers = c.read_policy-middle.new.counts.1.1.0;
+      numbers = c.read_policy-middle.new.policy;
       len = length c.args.policy.now;
       stored = c.read_policy-middle.ensures.policy_after;
     } in
@@ -216,43 +166,31 @@ returns-then-end-third c = let formulas : FormulasKept c.args.text.now = record 
       counts = c.in-Read-last.counts;
       at = c.in-Read-last.end;
       is = sym c.read_proof-last.ensures.value ∙ c.in-Read-last.is;
-      numbers = c.read_proof-last.new.counts.1.0;
+      numbers = c.read_proof-last.new.steps;
       len = length c.args.steps.now;
       stored = c.read_proof-last.ensures.steps_after;
     } in
-    
-    let place = end_at c.in-Read-last.counts.formulas c.in-Read-last.counts.policy c.in-Read-last.counts.steps in
+    let all = let place = end_at c.in-Read-last.counts.formulas c.in-Read-last.counts.policy c.in-Read-last.counts.steps in
     refused_all (body_request
-    c.args.text.now) (refusalIs 6 place) (refusalIs 6 c.end_at-place.result) (ap (refusalIs 6) c.end_at-place.ensures)
-    (bytes_after (formulas
-    c)
-    policy steps c.if-end-third.true)
-
-pub shape_of-forms : goal.shape_of-forms
-shape_of-forms c =
-    c.read_formulas-first.auto.1.0
-
-pub shape_of-policy : goal.shape_of-policy
-shape_of-policy c =
-    c.read_policy-middle.auto.1.1.1.0
-
-pub shape_of-steps : goal.shape_of-steps
-shape_of-steps c = c.read_proof-last.auto.1.1.0
+    c.args.text.now) (refusal_is 6 place) (refusal_is 6 c.end_at-place.result) (ap (refusal_is 6) c.end_at-place.ensures)
+    (bytes_after formulas
+    policy steps c.if-end-third.true) in
+    record { value = all.0; forms_after = all.1.0; policy_after = all.1.1.0; steps_after = all.1.1.1 }
 
 pub returns : goal.returns
 returns c = let formulas : FormulasKept c.args.text.now = record {
-      counts = c.in-Read.formulas;
-      at = c.in-Read.at;
-      is = sym c.read_formulas-first.ensures.value ∙ c.in-Read.is;
-      numbers = c.read_formulas-first.new.forms.0;
-      len = length c.args.forms.now;
-      stored = c.read_formulas-first.ensures.forms_after.0;
-    } in
+  counts = c.in-Read.formulas;
+  at = c.in-Read.at;
+  is = sym c.read_formulas-first.ensures.value ∙ c.in-Read.is;
+  numbers = c.read_formulas-first.new.forms;
+  len = length c.args.forms.now;
+  stored = c.read_formulas-first.ensures.forms_after;
+} in
     let policy : PolicyKept formulas = record {
       counts = c.in-Read-middle.clauses;
       at = c.in-Read-middle.more;
       is = sym c.read_policy-middle.ensures.value ∙ c.in-Read-middle.is;
-      numbers = c.read_policy-middle.new.counts.1.1.0;
+      numbers = c.read_policy-middle.new.policy;
       len = length c.args.policy.now;
       stored = c.read_policy-middle.ensures.policy_after;
     } in
@@ -260,10 +198,10 @@ returns c = let formulas : FormulasKept c.args.text.now = record {
       counts = c.in-Read-last.counts;
       at = c.in-Read-last.end;
       is = sym c.read_proof-last.ensures.value ∙ c.in-Read-last.is;
-      numbers = c.read_proof-last.new.counts.1.0;
+      numbers = c.read_proof-last.new.steps;
       len = length c.args.steps.now;
       stored = c.read_proof-last.ensures.steps_after;
     } in
-    
-    all_read formulas
-    policy steps c.if-end-third.false
+    let all = all_read formulas
+    policy steps c.if-end-third.false in
+    record { value = all.0; forms_after = all.1.0; policy_after = all.1.1.0; steps_after = all.1.1.1 }

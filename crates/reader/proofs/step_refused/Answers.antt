@@ -1,3 +1,4 @@
+-- `reader::step_refused` meets its contract, case by case.
 use mathlib.Core.Path.{ap, sym, ◌∙◌}
 use Rattle.scope.specs.File.Text.{step_line}
 use Rattle.scope.specs.Call.Answer.{column_for}

@@ -1,4 +1,4 @@
-use Prim.Native.Nat.{◌-◌, ◌≤◌}
+use Prim.Native.Nat.{◌≤◌}
 use mathlib.Core.Path.{◌≡◌, refl, ap, ◌∙◌}
 use mathlib.Core.List.{◌++◌, append-nil}
 use lib.ListN.{length, set, replicate, length-set, drop_of_length-le}
@@ -13,9 +13,6 @@ pub loop-i-preserved : goal.loop-i-preserved
 loop-i-preserved c = let n = c.args.numbers.now in
     let i = c.loop-i.i in
     (omega arith, ap (λ l. set l i 0) c.loop-i.invariant.1 ∙ fill_more i 0 n (omega arith), simp length-set c.loop-i.invariant.2)
-
-pub shape_of-numbers : goal.shape_of-numbers
-shape_of-numbers c = c.loop-i.invariant.2
 
 pub returns : goal.returns
 returns c = let n = c.args.numbers.now in

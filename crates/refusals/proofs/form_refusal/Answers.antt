@@ -1,3 +1,4 @@
+-- `refusals::form_refusal` meets its contract: for each kind the demands that its operands make, in their order.
 use mathlib.Core.Path.{ap, sym, ◌∙◌}
 use mathlib.Core.Bool.{true}
 use Rattle.scope.specs.File.Kinds.{form_kinds}

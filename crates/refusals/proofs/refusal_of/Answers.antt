@@ -1,7 +1,7 @@
+-- `refusals::refusal_of` meets its contract: the three demands in their order.
 use Rattle.scope.specs.File.Refusals.{demand}
 use Rattle.refusals.proofs.refusal_of.Goals as goal
 
--- `refusals::refusal_of` meets its contract: the three demands in their order.
 pub returns-then-not-unused : goal.returns-then-not-unused
 unfolding demand
 returns-then-not-unused c = rw c.if-not-unused.true

@@ -1,10 +1,10 @@
+-- `refusals::step_refusal` meets its contract: `use` and `to` carry a number up to 65,535, the other kinds none.
 use mathlib.Core.Path.{ap, sym, ◌∙◌}
 use mathlib.Core.Bool.{true}
 use Rattle.scope.specs.File.Refusals.{step_refusal}
 use Rattle.refusals.specs.Rows.{row, demands, step_7, step_10, step_over, step_plain}
 use Rattle.refusals.proofs.step_refusal.Goals as goal
 
--- `refusals::step_refusal` meets its contract: `use` and `to` carry a number up to 65,535, the other kinds none.
 pub returns-then-kind-ge-STEP_KINDS : goal.returns-then-kind-ge-STEP_KINDS
 returns-then-kind-ge-STEP_KINDS c = sym (step_over c.args.left c.args.right c.args.kind c.if-kind-ge-STEP_KINDS.true)
 

@@ -2,7 +2,7 @@
 use Rattle.std.specs.Prelude.{ℕ, suc, List, [], ◌∷◌, cond, length}
 use Rattle.scope.specs.Call.Result.{Result, result, refused}
 use Rattle.scope.specs.Logic.Facts.{Logic, plain}
-use Rattle.scope.specs.Call.Answer.{Answer, answer, further_down}
+use Rattle.scope.specs.Call.Answer.{answer, further_down}
 use Rattle.scope.specs.File.Request.{Row, Request}
 use Rattle.scope.specs.File.Number.{number}
 use Rattle.scope.specs.File.Line.{Read, ok, bad, Reader, line, counted, done, further, ◌>>=◌}

@@ -1,5 +1,5 @@
 -- Sequents, obligations and the eighteen kinds of step.
-use Rattle.std.specs.Prelude.{ℕ, suc, List, [], ◌∷◌, ◌++◌, map, get_or}
+use Rattle.std.specs.Prelude.{ℕ, List, [], ◌∷◌, ◌++◌, map, get_or}
 use Rattle.scope.specs.Logic.Form as F
 use Rattle.scope.specs.Logic.Form.{Form}
 use Rattle.scope.specs.Logic.Facts.{Fact, sf, Logic, Sheet, grown}

@@ -2,7 +2,7 @@
 -- table's numbers mean; what stands in the lent tables after reading.
 use Rattle.std.specs.Prelude.{ℕ, ◌≡◌, refl, List, [], ◌∷◌, ◌++◌, map, replicate}
 use Rattle.scope.specs.Call.Result.{refused, result_answer}
-use Rattle.scope.specs.Logic.Facts.{Logic, plain, unit}
+use Rattle.scope.specs.Logic.Facts.{Logic, plain}
 use Rattle.scope.specs.Call.Answer.{told, answer}
 use Rattle.scope.specs.File.Bytes.{bytes}
 use Rattle.scope.specs.Call.Tables.{Lent, padded}

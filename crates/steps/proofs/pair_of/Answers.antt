@@ -1,3 +1,4 @@
+-- `pair_of` meets its contract: each arm knows its step.
 use Rattle.steps.specs.Steps.{pair_of}
 use Rattle.steps.proofs.pair_of.Goals as goal
 

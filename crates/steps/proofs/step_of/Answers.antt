@@ -1,8 +1,8 @@
+-- `step_of` meets its contract: each arm knows its kind, and past the table's last but one stands the last.
 use mathlib.Core.Path.{sym}
 use Rattle.steps.specs.Steps.{step_from, kind_note, beyond}
 use Rattle.steps.proofs.step_of.Goals as goal
 
--- `step_of` meets its contract: each arm knows its kind, and past the table's last but one stands the last.
 pub returns-in-0 : goal.returns-in-0
 unfolding step_from
 returns-in-0 c = rw c.in-0.is

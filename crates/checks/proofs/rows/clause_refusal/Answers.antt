@@ -1,8 +1,8 @@
+-- `checks::rows::clause_refusal` meets its contract: below the count the class byte is asked.
 use Rattle.classes.specs.Class.{policy_in}
 use Rattle.checks.specs.Sections.{class_asked}
 use Rattle.checks.proofs.rows.clause_refusal.Goals as goal
 
--- `checks::rows::clause_refusal` meets its contract: below the count the class byte is asked.
 pub returns : goal.returns
 returns c =
     let a = c.args in

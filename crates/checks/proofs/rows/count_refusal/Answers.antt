@@ -1,8 +1,8 @@
+-- `checks::rows::count_refusal` meets its contract: below the least or above the most is 3.
 use borrow.Author.Tests.{le-leb, lt-leb}
 use Rattle.scope.specs.File.Refusals.{count_refusal}
 use Rattle.checks.proofs.rows.count_refusal.Goals as goal
 
--- `checks::rows::count_refusal` meets its contract: below the least or above the most is 3.
 pub returns-then-n-least : goal.returns-then-n-least
 unfolding count_refusal
 returns-then-n-least c = rw (lt-leb c.args.least _ c.if-n-least.true)

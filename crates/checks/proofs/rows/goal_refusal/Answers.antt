@@ -1,8 +1,8 @@
+-- `checks::rows::goal_refusal` meets its contract: below the count the class byte is asked.
 use Rattle.classes.specs.Class.{goal_in}
 use Rattle.checks.specs.Sections.{class_asked}
 use Rattle.checks.proofs.rows.goal_refusal.Goals as goal
 
--- `checks::rows::goal_refusal` meets its contract: below the count the class byte is asked.
 pub returns : goal.returns
 returns c =
     let a = c.args in

@@ -1,10 +1,10 @@
+-- `checks::rows::unit_refusal` meets its contract: 16 for version 1 with unit, and for nothing else.
 use mathlib.Core.Path.{refl}
 use borrow.Author.Tests.{ne_eqb}
 use Rattle.scope.specs.File.Refusals.{unit_refusal}
 use Rattle.checks.specs.MetLaws.{unit_told, plain_told}
 use Rattle.checks.proofs.rows.unit_refusal.Goals as goal
 
--- `checks::rows::unit_refusal` meets its contract: 16 for version 1 with unit, and for nothing else.
 pub returns-then-version-ne1 : goal.returns-then-version-ne1
 unfolding unit_refusal
 returns-then-version-ne1 c = rw (ne_eqb c.args.version 1 c.if-version-ne1.true) refl

@@ -1,3 +1,4 @@
+-- `note_line` meets its contract: the row is the definition's, and so is the test of its kind.
 use mathlib.Core.Path.{◌∙◌}
 use Rattle.machine.proofs.Turns.{line_sf, line_other}
 use Rattle.machine.proofs.begin.note_line.Goals as goal

@@ -1,3 +1,4 @@
+-- `case_top` meets its contract: each call gives a part of the definition.
 use Rattle.machine.specs.Tables.{case_chunks}
 use Rattle.machine.proofs.blocks.case_top.Goals as goal
 

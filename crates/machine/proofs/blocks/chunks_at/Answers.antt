@@ -2,7 +2,6 @@ use Rattle.machine.specs.Tables.{block}
 use Rattle.scope.specs.Limits.{most_chunks}
 use Rattle.facts.specs.Fill.{fill, fill_front}
 use mathlib.Core.Path.{◌≡◌, refl}
-use Prim.Native.Nat.{◌-◌}
 use native.Mathlib.Omega.{arith}
 use Rattle.machine.proofs.blocks.chunks_at.Goals as goal
 

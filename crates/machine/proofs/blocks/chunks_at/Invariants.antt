@@ -1,3 +1,4 @@
+-- `chunks_at` meets its contract: after i turns the first i entries are read.
 use Rattle.scope.specs.Limits.{most_chunks}
 use Rattle.facts.specs.Fill.{fill}
 use lib.ListN.{get_or}
@@ -5,7 +6,6 @@ use mathlib.Core.Path.{◌≡◌}
 use Prim.Native.Nat.{ℕ, ◌+◌, ◌≤◌, ◌-◌}
 use Rattle.machine.proofs.blocks.chunks_at.Given as goal
 
--- `chunks_at` meets its contract: after i turns the first i entries are read.
 abbrev pub invariant-loop-i : goal.invariant-loop-i
 invariant-loop-i l = (l.i ≤ most_chunks) × (l.held ≡ fill (λ (k : ℕ). get_or l.t (l.at + k) 0) 0 l.i l.initial.held)
 

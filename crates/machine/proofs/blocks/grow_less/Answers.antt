@@ -1,3 +1,4 @@
+-- `grow_less` meets its contract: the goal is the definition's.
 use Rattle.machine.proofs.blocks.grow_less.Goals as goal
 
 pub returns : goal.returns

@@ -1,3 +1,4 @@
+-- `grow_speak` meets its contract: the goal is the definition's.
 use Rattle.machine.proofs.blocks.grow_speak.Goals as goal
 
 pub returns : goal.returns

@@ -1,3 +1,4 @@
+-- `move_chunks` meets its contract: each arm knows its move, which is the definition's line.
 use Rattle.machine.specs.Tables.{chunks_after}
 use Rattle.machine.proofs.blocks.move_chunks.Goals as goal
 

@@ -1,3 +1,4 @@
+-- `move_rows` meets its contract: each arm knows its move, which is the definition's line.
 use Rattle.machine.specs.Tables.{rows_after}
 use Rattle.machine.proofs.blocks.move_rows.Goals as goal
 

@@ -1,3 +1,4 @@
+-- `move_tables` meets its contract: each call writes a table as the definition does, at the definition's place.
 use Rattle.machine.proofs.blocks.move_tables.Goals as goal
 
 pub returns : goal.returns

@@ -1,3 +1,4 @@
+-- `note_newest` meets its contract: the world is the definition's.
 use Rattle.machine.proofs.blocks.note_newest.Goals as goal
 
 pub returns : goal.returns

@@ -1,3 +1,4 @@
+-- `put_back` meets its contract: the world and the rows are the definition's.
 use Rattle.machine.proofs.blocks.put_back.Goals as goal
 
 pub returns : goal.returns

@@ -1,3 +1,4 @@
+-- `put_chunk` meets its contract: the entry is the definition's.
 use Rattle.machine.proofs.blocks.put_chunk.Goals as goal
 
 pub returns : goal.returns

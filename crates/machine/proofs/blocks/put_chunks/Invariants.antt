@@ -1,3 +1,4 @@
+-- `put_chunks` meets its contract: after i turns the first i entries are written.
 use Rattle.scope.specs.Limits.{most_chunks}
 use Rattle.facts.specs.Fill.{fill}
 use lib.ListN.{get_or}
@@ -5,7 +6,6 @@ use mathlib.Core.Path.{◌≡◌}
 use Prim.Native.Nat.{ℕ, ◌≤◌, ◌-◌}
 use Rattle.machine.proofs.blocks.put_chunks.Given as goal
 
--- `put_chunks` meets its contract: after i turns the first i entries are written.
 abbrev pub invariant-loop-i : goal.invariant-loop-i
 invariant-loop-i l = (l.i ≤ most_chunks) × (l.t ≡ fill (λ (k : ℕ). get_or l.held k 0) l.at l.i l.initial.t)
 

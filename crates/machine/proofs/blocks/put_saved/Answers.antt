@@ -2,7 +2,6 @@ use Rattle.machine.specs.Tables.{put_block}
 use Rattle.scope.specs.Limits.{most_principals}
 use Rattle.facts.specs.Fill.{fill, fill_more}
 use mathlib.Core.Path.{◌≡◌, refl}
-use Prim.Native.Nat.{◌-◌}
 use native.Mathlib.Omega.{arith}
 use Rattle.machine.proofs.blocks.put_saved.Goals as goal
 

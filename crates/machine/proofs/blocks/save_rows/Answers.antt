@@ -1,3 +1,4 @@
+-- `save_rows` meets its contract: the test is the definition's, and the rows and their place are, too.
 use mathlib.Core.Path.{sym, ◌∙◌}
 use borrow.Author.Tests.{le-leb, lt-leb}
 use Rattle.moves.specs.Tests.{pick_true, pick_false}

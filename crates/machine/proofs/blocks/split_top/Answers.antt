@@ -1,3 +1,4 @@
+-- `split_top` meets its contract: each call gives a part of the definition.
 use Rattle.machine.specs.Tables.{split_chunks}
 use Rattle.machine.proofs.blocks.split_top.Goals as goal
 

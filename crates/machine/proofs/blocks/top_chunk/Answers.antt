@@ -1,3 +1,4 @@
+-- `top_chunk` meets its contract: the entry is the definition's.
 use Rattle.machine.specs.Tables.{top_chunk}
 use Rattle.machine.proofs.blocks.top_chunk.Goals as goal
 

@@ -1,3 +1,4 @@
+-- `after_aim` meets its contract: each call gives a part of what it states.
 use Rattle.machine.proofs.changes.after_aim.Goals as goal
 
 pub returns : goal.returns

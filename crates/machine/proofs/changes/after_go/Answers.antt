@@ -1,3 +1,4 @@
+-- `after_go` meets its contract: each call gives a part of what it states.
 use Rattle.machine.proofs.changes.after_go.Goals as goal
 
 pub returns : goal.returns

@@ -1,3 +1,4 @@
+-- `after_less` meets its contract: each call gives a part of the definition.
 use Rattle.machine.proofs.changes.after_less.Goals as goal
 
 pub returns : goal.returns

@@ -1,3 +1,4 @@
+-- `after_meet` meets its contract: each call gives a part of what it states.
 use Rattle.machine.proofs.changes.after_meet.Goals as goal
 
 pub returns : goal.returns

@@ -1,3 +1,4 @@
+-- `after_split` meets its contract: each call gives a part of the definition.
 use Rattle.machine.specs.Change.{one_more}
 use Rattle.machine.proofs.changes.after_split.Goals as goal
 

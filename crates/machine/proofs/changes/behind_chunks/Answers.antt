@@ -1,8 +1,8 @@
+-- `behind_chunks` meets its contract: the test is the definition's own.
 use Rattle.moves.specs.Tests.{tests}
 use Rattle.machine.specs.Change.{behind}
 use Rattle.machine.proofs.changes.behind_chunks.Goals as goal
 
--- `behind_chunks` meets its contract: the test is the definition's own.
 pub returns-then-n-gt0 : goal.returns-then-n-gt0
 unfolding behind
 returns-then-n-gt0 c = search tests

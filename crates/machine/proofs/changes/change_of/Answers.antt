@@ -1,3 +1,4 @@
+-- `change_of` meets its contract: each arm knows its move, which is the definition's line and says what room there is.
 use Rattle.machine.specs.Change.{change_of}
 use Rattle.machine.specs.Room.{room}
 use Rattle.machine.proofs.changes.change_of.Goals as goal

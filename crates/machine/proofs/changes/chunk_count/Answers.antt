@@ -1,3 +1,4 @@
+-- `chunk_count` meets its contract: each arm knows its phase.
 use Rattle.machine.specs.Change.{chunk_count}
 use Rattle.machine.proofs.changes.chunk_count.Goals as goal
 

@@ -1,3 +1,4 @@
+-- `goal_in` meets its contract: each arm knows its phase.
 use Rattle.machine.specs.Change.{goal_in}
 use Rattle.machine.proofs.changes.goal_in.Goals as goal
 

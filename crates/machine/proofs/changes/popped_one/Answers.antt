@@ -1,3 +1,4 @@
+-- `popped_one` meets its contract: each call gives a part of the definition.
 use Rattle.machine.specs.Change.{popped}
 use Rattle.machine.proofs.changes.popped_one.Goals as goal
 

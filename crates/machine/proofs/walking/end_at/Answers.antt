@@ -1,3 +1,4 @@
+-- `end_at` meets its contract: the test is the definition's.
 use native.Mathlib.Omega.{arith}
 use mathlib.Core.Path.{sym, ◌∙◌}
 use borrow.Author.Tests.{eq-eqb, ne_eqb}

@@ -1,3 +1,4 @@
+-- `judge_now` meets its contract: the step is the definition's.
 use Rattle.machine.proofs.walking.judge_now.Goals as goal
 
 pub returns : goal.returns

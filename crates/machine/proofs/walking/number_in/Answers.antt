@@ -1,3 +1,4 @@
+-- `number_in` meets its contract: each arm knows its answer.
 use Rattle.moves.specs.Steps.{number_in}
 use Rattle.machine.proofs.walking.number_in.Goals as goal
 

@@ -1,3 +1,4 @@
+-- `put_clause` meets its contract: both tables are as `put_entry` leaves them, and the goal is the definition's.
 use Rattle.machine.proofs.walking.put_clause.Goals as goal
 
 pub returns : goal.returns

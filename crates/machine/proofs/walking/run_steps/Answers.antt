@@ -47,17 +47,16 @@ pub loop-i-smaller : goal.loop-i-smaller
 loop-i-smaller c = omega (arith, c.loop-i-test.true)
 
 pub loop-i-preserved : goal.loop-i-preserved
-loop-i-preserved c = let t = c in
-    let l = t.before.before.before.before.before.before.before.before.before.before.before.before.before.before.loop in
-    let a = t.before.before.before.before.before.before.before.before.before.before.before.before.before.before.before.before.before.args in
-    let early : l.i < a.total = omega (arith, t.before.before.before.before.before.before.before.before.before.before.before.before.before.loop-test.true) in
+loop-i-preserved c = let l = c.loop-i in
+    let a = c.args in
+    let early : l.i < a.total = omega (arith, c.loop-i-test.true) in
     let inside : l.opened - 1 < length l.stack = omega (arith, l.invariant.1, l.invariant.2) in
     let under : l.opened - 2 < length l.stack = omega (arith, l.invariant.1, l.invariant.2) in
-    let some : l.opened ≡ 0 → ⊥ = t.before.before.before.before.before.before.before.before.before.before.before.before.if1.false in
+    let some : l.opened ≡ 0 → ⊥ = c.if-opened-eq0.false in
     let s : State = state_of l.rows (stack_of l.stack l.chunks l.saved) l.opened l.clauses l.ats in
-    let judged = t.before.before.before.before.before.judge-now.ensures in
-    let fits = t.before.before.before.j.given.1 in
-    let change = t.before.change-of.ensures in
+    let judged = c.judge_now-j.ensures in
+    let fits = c.in-Fits.is in
+    let change = c.change_of-made.ensures in
     let tables = c.move_tables.ensures in
     let clause = c.put_clause.ensures in (
       omega (arith, early),
@@ -66,14 +65,14 @@ loop-i-preserved c = let t = c in
       turn_on a.unit a.forms.now a.steps.now a.total l.i s _ _ _ _ _ _ _ _ _ _ _ _ l.invariant.3 early some judged fits
           (record {
             this = read_at s (l.opened - 1) _ _ refl inside;
-            topmost = t.before.before.before.before.before.before.before.before.before.top-chunk.ensures;
-            under = read_at s (l.opened - 2) _ _ t.less_by.ensures under;
+            topmost = c.top_chunk-top.ensures;
+            under = read_at s (l.opened - 2) _ _ c.less_by.ensures under;
             change = change;
-            kept = tables.0;
-            facts = tables.1.0;
-            held = tables.1.1;
-            clause = clause.0;
-            world = clause.1;
+            kept = tables.saved_after;
+            facts = tables.rows_after;
+            held = tables.chunks_after;
+            clause = clause.clauses_after;
+            world = clause.ats_after;
           }),
     )
 

@@ -1,3 +1,5 @@
+-- `run_steps` meets its contract: what is left of the walk from the state so far is the whole walk from the first state, and a turn
+-- writes what the definition writes. No index and no sum is too large: a move that fits has room.
 use Prim.Native.Nat.{◌-◌, ◌≤◌}
 use mathlib.Core.Path.{◌≡◌}
 use lib.ListN.{length}
@@ -7,8 +9,6 @@ use Rattle.machine.specs.Machine.{ran_from}
 use Rattle.machine.specs.Turn.{stack_of, state_of}
 use Rattle.machine.proofs.walking.run_steps.Given as goal
 
--- `run_steps` meets its contract: what is left of the walk from the state so far is the whole walk from the first state, and a turn
--- writes what the definition writes. No index and no sum is too large: a move that fits has room.
 abbrev pub invariant-loop-i : goal.invariant-loop-i
 invariant-loop-i l =
     (l.i ≤ l.total) × (l.opened ≤ most_open) × (length l.stack ≡ places) ×

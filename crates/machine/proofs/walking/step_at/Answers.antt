@@ -1,3 +1,4 @@
+-- `step_at` meets its contract: kind and number are the entries that the definition reads.
 use mathlib.Core.Path.{◌∙◌}
 use Rattle.machine.proofs.Turns.{step_pair}
 use Rattle.machine.proofs.walking.step_at.Goals as goal

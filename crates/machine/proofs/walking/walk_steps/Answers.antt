@@ -1,3 +1,4 @@
+-- `walk_steps` meets its contract: the calls before the walk make the definition's first state.
 use Rattle.machine.proofs.Turns.{ran_is}
 use Rattle.machine.proofs.walking.walk_steps.Goals as goal
 

@@ -1,3 +1,4 @@
+-- `fits` is what the definition says of the kind (7), as `pushed_kind` ensures; then the number of clauses is asked (10).
 use mathlib.Core.Path.{◌∙◌, sym}
 use Rattle.moves.specs.Steps.{push_step}
 use Rattle.moves.specs.Tests.{tests}

@@ -1,8 +1,8 @@
+-- Each answer is the definition's, once its tests are known.
 use Rattle.moves.specs.Steps.{pushed_kind}
 use Rattle.moves.specs.Tests.{tests}
 use Rattle.moves.proofs.chunk.pushed_kind.Goals as goal
 
--- Each answer is the definition's, once its tests are known.
 pub returns-then-kind-eq0 : goal.returns-then-kind-eq0
 unfolding pushed_kind
 returns-then-kind-eq0 c = search tests

@@ -1,9 +1,9 @@
+-- The kind is asked first (7), then the atom (9); then `there` is what the rows tell of u ≤ w, as `has_le` ensures (9).
 use mathlib.Core.Path.{◌∙◌, sym}
 use Rattle.moves.specs.Steps.{hit_step}
 use Rattle.moves.specs.Tests.{tests}
 use Rattle.moves.proofs.focus.hit_step.Goals as goal
 
--- The kind is asked first (7), then the atom (9); then `there` is what the rows tell of u ≤ w, as `has_le` ensures (9).
 pub returns-then-r-ne0 : goal.returns-then-r-ne0
 unfolding hit_step
 returns-then-r-ne0 c = search tests

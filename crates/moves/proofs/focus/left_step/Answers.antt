@@ -1,8 +1,8 @@
+-- The kind is the one test (7).
 use Rattle.moves.specs.Steps.{left_step}
 use Rattle.moves.specs.Tests.{tests}
 use Rattle.moves.proofs.focus.left_step.Goals as goal
 
--- The kind is the one test (7).
 pub returns-then-r-ne3 : goal.returns-then-r-ne3
 unfolding left_step
 returns-then-r-ne3 c = search tests

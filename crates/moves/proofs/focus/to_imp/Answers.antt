@@ -1,3 +1,5 @@
+-- The number of worlds is asked first (8); then `there` is what the rows tell of u ≤ v, as `has_le` ensures (9);
+-- then the number of open obligations (10).
 use mathlib.Core.Path.{◌∙◌, sym}
 use Rattle.moves.specs.Steps.{to_imp}
 use Rattle.moves.specs.Tests.{tests}

@@ -1,3 +1,4 @@
+-- By the kind the answer is that of `to_imp` or of `to_says`, and so is the definition's; for every other kind it is 7.
 use mathlib.Core.Path.{◌∙◌, sym}
 use borrow.Author.Tests.{eq-eqb, ne_eqb}
 use Rattle.moves.specs.Steps.{to_step}

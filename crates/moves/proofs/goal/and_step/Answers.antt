@@ -1,3 +1,4 @@
+-- The kind is asked first (7), the number of open obligations after it (10), as in the definition.
 use native.Mathlib.Omega.{arith}
 use borrow.Author.Tests.{eq-eqb, le-leb, lt-leb}
 use Rattle.scope.specs.Limits.{most_open}
@@ -5,7 +6,6 @@ use Rattle.moves.specs.Steps.{and_step}
 use Rattle.moves.specs.Tests.{pick_false, pick_true, tests}
 use Rattle.moves.proofs.goal.and_step.Goals as goal
 
--- The kind is asked first (7), the number of open obligations after it (10), as in the definition.
 pub returns-then-r-ne3 : goal.returns-then-r-ne3
 unfolding and_step
 returns-then-r-ne3 c = search tests

@@ -1,8 +1,8 @@
+-- The kind is asked first (7), the number of worlds after it (10), as in the definition.
 use Rattle.moves.specs.Steps.{imp_step}
 use Rattle.moves.specs.Tests.{tests}
 use Rattle.moves.proofs.goal.imp_step.Goals as goal
 
--- The kind is asked first (7), the number of worlds after it (10), as in the definition.
 pub returns-then-r-ne5 : goal.returns-then-r-ne5
 unfolding imp_step
 returns-then-r-ne5 c = search tests

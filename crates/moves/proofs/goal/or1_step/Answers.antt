@@ -1,8 +1,8 @@
+-- The kind is the one test (7).
 use Rattle.moves.specs.Steps.{or1_step}
 use Rattle.moves.specs.Tests.{tests}
 use Rattle.moves.proofs.goal.or1_step.Goals as goal
 
--- The kind is the one test (7).
 pub returns-then-r-ne4 : goal.returns-then-r-ne4
 unfolding or1_step
 returns-then-r-ne4 c = search tests

@@ -1,8 +1,8 @@
+-- The kind is asked first (7); then it is known which of the two `found` is (8).
 use Rattle.moves.specs.Steps.{if_found, use_step}
 use Rattle.moves.specs.Tests.{tests}
 use Rattle.moves.proofs.goal.use_step.Goals as goal
 
--- The kind is asked first (7); then it is known which of the two `found` is (8).
 pub returns-then-r-ne0 : goal.returns-then-r-ne0
 unfolding use_step if_found
 returns-then-r-ne0 c = search tests

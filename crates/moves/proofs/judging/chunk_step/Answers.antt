@@ -1,3 +1,5 @@
+-- The row is the definition's, as `row_at` ensures. Each arm knows its step: there the definition is 7,
+-- or what the called function ensures.
 use Rattle.moves.specs.Judge.{chunk_step, on_chunk}
 use Rattle.moves.proofs.judging.chunk_step.Goals as goal
 

@@ -1,10 +1,10 @@
+-- The number is tested first; then the two entries and the row's kind are the definition's, as `entry_at` and `row_at` ensure.
 use mathlib.Core.Path.{ap}
 use Rattle.moves.specs.declared.Row.{Row}
 use Rattle.moves.specs.Judge.{find_clause, row_at}
 use Rattle.moves.specs.Tests.{tests}
 use Rattle.moves.proofs.judging.find_clause.Goals as goal
 
--- The number is tested first; then the two entries and the row's kind are the definition's, as `entry_at` and `row_at` ensure.
 pub returns-then-count-n : goal.returns-then-count-n
 unfolding find_clause
 returns-then-count-n c = search tests

@@ -1,3 +1,5 @@
+-- The two rows are the definition's, as `row_at` ensures. Each arm knows its step: there the definition is 7,
+-- or what the called function ensures.
 use mathlib.Core.Path.{ap}
 use Rattle.moves.specs.declared.Row.{Row}
 use Rattle.moves.specs.Judge.{focus_step, on_focus, row_at}

@@ -1,3 +1,5 @@
+-- The row is the definition's, as `row_at` ensures. Each arm knows its step: there the definition is 7,
+-- or what the called function ensures.
 use Rattle.moves.specs.Judge.{goal_step, on_goal}
 use Rattle.moves.proofs.judging.goal_step.Goals as goal
 

@@ -1,3 +1,4 @@
+-- Each arm knows its phase: there the definition is what the called function ensures.
 use Rattle.moves.specs.Judge.{judge_step}
 use Rattle.moves.proofs.judging.judge_step.Goals as goal
 

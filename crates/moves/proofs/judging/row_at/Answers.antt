@@ -1,3 +1,4 @@
+-- Each of the three entries is the definition's, as `entry_at` ensures.
 use Rattle.moves.specs.Judge.{row_at}
 use Rattle.moves.proofs.judging.row_at.Goals as goal
 

@@ -1,3 +1,4 @@
+-- `reader::first_lines::count_line` meets its contract: no number is 2, a number outside the bounds 3.
 use Rattle.scope.specs.File.Refusals.{count_refusal}
 use Rattle.lines.specs.Parts.{value_of}
 use Rattle.reader.specs.Lines.{number_lost, number_turned, number_taken, count_low, count_high, count_in}

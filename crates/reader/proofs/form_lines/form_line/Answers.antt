@@ -1,3 +1,4 @@
+-- `reader::form_lines::form_line` meets its contract: out of shape is 2, and a row in shape has its own refusal; one that passes is small.
 use mathlib.Core.Path.{sym, ◌∙◌}
 use Rattle.scope.specs.File.Kinds.{form_kinds}
 use Rattle.scope.specs.File.Refusals.{row_refusal}
@@ -34,7 +35,7 @@ overflow_cast-k c = let small : Small c.args.principals c.args.atoms c.args.form
     c.ranges.atoms.fits
     c.ranges.formula.fits
     c.in-Items.kind (sym c.form_refusal-refusal.ensures ∙ c.if-refusal-ne0.false) in
-     omega (arith, (small).kinds)
+    omega (arith, (small).kinds)
 
 pub overflow_cast-x : goal.overflow_cast-x
 overflow_cast-x c = let small : Small c.args.principals c.args.atoms c.args.formula c.in-Items.left c.in-Items.right c.in-Items.kind = form_small c.args.principals
@@ -44,7 +45,7 @@ overflow_cast-x c = let small : Small c.args.principals c.args.atoms c.args.form
     c.ranges.atoms.fits
     c.ranges.formula.fits
     c.in-Items.kind (sym c.form_refusal-refusal.ensures ∙ c.if-refusal-ne0.false) in
-     omega (arith, (small).lefts)
+    omega (arith, (small).lefts)
 
 pub overflow_cast-y : goal.overflow_cast-y
 overflow_cast-y c = let small : Small c.args.principals c.args.atoms c.args.formula c.in-Items.left c.in-Items.right c.in-Items.kind = form_small c.args.principals
@@ -54,7 +55,7 @@ overflow_cast-y c = let small : Small c.args.principals c.args.atoms c.args.form
     c.ranges.atoms.fits
     c.ranges.formula.fits
     c.in-Items.kind (sym c.form_refusal-refusal.ensures ∙ c.if-refusal-ne0.false) in
-     omega (arith, (small).rights)
+    omega (arith, (small).rights)
 
 pub returns : goal.returns
 returns c =

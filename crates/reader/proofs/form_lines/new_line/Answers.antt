@@ -1,3 +1,4 @@
+-- `reader::form_lines::new_line` meets its contract: a refusal of the row stands; a row that the slots know is 15; any other is kept.
 use mathlib.Core.Path.{◌∙◌}
 use mathlib.Core.List.{List}
 use Prim.Native.Nat.{ℕ}
@@ -10,7 +11,6 @@ use Rattle.refusals.specs.Rows.{row}
 use Rattle.reader.specs.NewRows.{still_refused, then_refused, then_taken, slots_refused, slots_stand, slots_kept, taken_same, repeated, fresh}
 use Rattle.reader.proofs.form_lines.new_line.Goals as goal
 
--- `reader::form_lines::new_line` meets its contract: a refusal of the row stands; a row that the slots know is 15; any other is kept.
 abbrev again : List ℕ → List ℕ → Row → ℕ
 again forms slots r = repeat_refusal (earlier_at (place_in forms slots r))
 
@@ -29,13 +29,12 @@ pub returns-in_default-earlier : goal.returns-in_default-earlier
 returns-in_default-earlier c =
     let a = c.args in
     let g = c.form_line-got in
-    let n = c.enter_row-earlier in
     let p = place_in a.forms.now a.slots.now (row c.in-Row.kind c.in-Row.left c.in-Row.right) in
     let j = c.in_default-earlier.field-0 in
     record {
       value = then_refused (row_refusal form_kinds a.principals a.atoms a.formula) (again a.forms.now a.slots.now) (row_in form_kinds a.value.now)
-          g.result g.ensures c.in-Row.kind c.in-Row.left c.in-Row.right c.in-Row.is 14 (repeated p n.result j n.ensures.0 c.in_default-earlier.is);
-      slots_after = n.ensures.1 ∙ taken_same p n.result j a.formula a.slots.now n.ensures.0 c.in_default-earlier.is ∙
+          g.result g.ensures c.in-Row.kind c.in-Row.left c.in-Row.right c.in-Row.is 14 (repeated p c.enter_row-earlier.result j c.enter_row-earlier.ensures.value c.in_default-earlier.is);
+      slots_after = c.enter_row-earlier.ensures.slots_after ∙ taken_same p c.enter_row-earlier.result j a.formula a.slots.now c.enter_row-earlier.ensures.value c.in_default-earlier.is ∙
           slots_stand 15 a.forms.now a.formula a.slots.now;
     }
 
@@ -43,10 +42,9 @@ pub returns : goal.returns
 returns c =
     let a = c.args in
     let g = c.form_line-got in
-    let n = c.enter_row-earlier in
     let p = place_in a.forms.now a.slots.now (row c.in-Row.kind c.in-Row.left c.in-Row.right) in
     record {
       value = then_taken (row_refusal form_kinds a.principals a.atoms a.formula) (again a.forms.now a.slots.now) (row_in form_kinds a.value.now)
-          g.result g.ensures c.in-Row.kind c.in-Row.left c.in-Row.right c.in-Row.is (fresh p n.result n.ensures.0 c.in-Nothing.is);
-      slots_after = n.ensures.1 ∙ slots_kept c.in-Row.kind c.in-Row.left c.in-Row.right a.forms.now a.formula a.slots.now;
+          g.result g.ensures c.in-Row.kind c.in-Row.left c.in-Row.right c.in-Row.is (fresh p c.enter_row-earlier.result c.enter_row-earlier.ensures.value c.in-Nothing.is);
+      slots_after = c.enter_row-earlier.ensures.slots_after ∙ slots_kept c.in-Row.kind c.in-Row.left c.in-Row.right a.forms.now a.formula a.slots.now;
     }

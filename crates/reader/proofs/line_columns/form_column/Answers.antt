@@ -1,3 +1,4 @@
+-- `reader::line_columns::form_column` meets its contract: the bytes that can stand are few, so that one more fits.
 use Prim.Native.Nat.{suc}
 use mathlib.Core.Path.{◌≡◌, ap, ◌∙◌}
 use Rattle.scope.specs.File.Line.{line_stop}
@@ -8,7 +9,6 @@ use native.Mathlib.Numerals.{add-one}
 use native.Mathlib.Omega.{arith}
 use Rattle.reader.proofs.line_columns.form_column.Goals as goal
 
--- `reader::line_columns::form_column` meets its contract: the bytes that can stand are few, so that one more fits.
 pub returns-then-number-ne2 : goal.returns-then-number-ne2
 returns-then-number-ne2 c = column_none c.args.number (suc (line_stop form_line c.args.text.now)) c.if-number-ne2.true
 

@@ -1,3 +1,4 @@
+-- `reader::policy_lines::clause_line` meets its contract: the class is asked of a number that is a formula's.
 use mathlib.Core.Path.{ap, sym, ◌∙◌}
 use Rattle.scope.specs.File.Number.{number}
 use Rattle.classes.specs.Class.{policy_in}

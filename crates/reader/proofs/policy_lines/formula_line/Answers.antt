@@ -1,3 +1,4 @@
+-- `reader::policy_lines::formula_line` meets its contract: no number is 2, a number not below the count of formulas 3.
 use mathlib.Core.Path.{refl}
 use Rattle.reader.specs.Sections.{below_refusal}
 use Rattle.reader.specs.Lines.{number_lost, number_turned, number_taken, below_not, below_is}

@@ -1,3 +1,5 @@
+-- `reader::policy_lines::read_clauses` meets its contract: the table holds the policy lines read so far, and what is left of the text gives the others. The measure
+-- is the lines that are left.
 use Prim.Native.Nat.{◌-◌}
 use lib.ListN.{length}
 use Rattle.scope.specs.Call.Tables.{policy_entry}
@@ -5,11 +7,9 @@ use Rattle.reader.specs.Sections.{classed_item}
 use Rattle.reader.specs.Turns.{Turns}
 use Rattle.reader.proofs.policy_lines.read_clauses.Given as goal
 
--- `reader::policy_lines::read_clauses` meets its contract: the table holds the policy lines read so far, and what is left of the text gives the others. The measure
--- is the lines that are left.
 abbrev pub invariant-loop-i : goal.invariant-loop-i
 invariant-loop-i l =
-    Turns policy_entry (classed_item l.classes l.formulas) l.clauses l.text (length l.initial.policy) l.i rest i
+    Turns policy_entry (classed_item l.classes l.formulas) l.clauses l.text (length l.initial.policy) l.policy l.rest l.i
 
 abbrev pub decreases-loop-i : goal.decreases-loop-i
-decreases-loop-i l = l.clauses - i
+decreases-loop-i l = l.clauses - l.i

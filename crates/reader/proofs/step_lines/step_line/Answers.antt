@@ -1,3 +1,4 @@
+-- `reader::step_lines::step_line` meets its contract: out of shape is 2, and a row in shape has its own refusal; one that passes is small, and a step.
 use mathlib.Core.Path.{ap, sym, ◌∙◌}
 use Rattle.scope.specs.File.Kinds.{step_kinds}
 use Rattle.scope.specs.File.Refusals.{step_refusal}

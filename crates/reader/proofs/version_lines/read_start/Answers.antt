@@ -1,3 +1,4 @@
+-- `reader::version_lines::read_start` meets its contract: the second line is read where the first tells version 2, and the first refusal is the answer.
 use mathlib.Core.Path.{◌≡◌, refl, ap, sym, ◌∙◌}
 use lib.ListN.{length}
 use Rattle.scope.specs.File.Text.{version_line, logic_line}
@@ -5,7 +6,7 @@ use Rattle.common.specs.Answers.{answer_of}
 use Rattle.scope.specs.Limits.{version_at, logic_at}
 use Rattle.scope.specs.File.Refusals.{version_refusal}
 use Rattle.reader.specs.Sections.{start_part}
-use Rattle.reader.specs.Answers.{refused_at, numberRefusal}
+use Rattle.reader.specs.Answers.{refused_at, number_refusal}
 use Rattle.reader.specs.Lines.{number_ok, number_bad, logic_ok, logic_bad}
 use Rattle.reader.specs.Starts.{start_at_version, start_alone, start_at_logic, start_whole, refuses_start, reads_start}
 use Rattle.reader.specs.Turns.{rest_short}
@@ -13,14 +14,13 @@ use Rattle.reader.specs.declared.Start.TheVariants as Start
 use native.Mathlib.Omega.{arith}
 use Rattle.reader.proofs.version_lines.read_start.Goals as goal
 
--- `reader::version_lines::read_start` meets its contract: the second line is read where the first tells version 2, and the first refusal is the answer.
 pub returns-in_default : goal.returns-in_default
 returns-in_default c =
     let t = c.args.text.now in
     let k = c.in_default.field-0 in
     let e = number_bad "version=" version_refusal version_at t k (sym c.count_line-version.ensures ∙ c.in_default.is) in
     let r : c.number_refused.result ≡ answer_of (refused_at version_line k version_at t) =
-    c.number_refused.ensures ∙ (λ j. answer_of (refused_at version_line (numberRefusal (c.in_default.is j)) (c.version_at.ensures j) t)) in
+    c.number_refused.ensures ∙ (λ j. answer_of (refused_at version_line (number_refusal (c.in_default.is j)) (c.version_at.ensures j) t)) in
     ap Start.Refused r ∙ refuses_start (length t) (start_part t) (refused_at version_line k version_at t) (start_at_version t (refused_at version_line k version_at t) e)
 
 pub overflow_sub-past : goal.overflow_sub-past
@@ -43,7 +43,7 @@ returns-in_default-logic c =
     let k = c.in_default-logic.field-0 in
     let f = logic_bad logic_at k s1 (sym c.logic_line-logic.ensures ∙ c.in_default-logic.is) in
     let r : c.logic_refused.result ≡ answer_of (refused_at logic_line k logic_at s1) =
-    c.logic_refused.ensures ∙ (λ j. answer_of (refused_at logic_line (numberRefusal (c.in_default-logic.is j)) (c.logic_at.ensures j) s1)) in
+    c.logic_refused.ensures ∙ (λ j. answer_of (refused_at logic_line (number_refusal (c.in_default-logic.is j)) (c.logic_at.ensures j) s1)) in
     ap Start.Refused r ∙ refuses_start (length t) (start_part t) (refused_at logic_line k logic_at s1) (start_at_logic t v s1 e c.if-v-ne2.false (refused_at logic_line k logic_at s1) f)
 
 pub overflow_sub-at : goal.overflow_sub-at

@@ -1,0 +1,19 @@
+use Rattle.checks.specs.Sections.{step_row_lem}
+use Rattle.writer.specs.Sections.{lines_none, lines_more, lines_all}
+use Rattle.writer.proofs.sections.put_steps.Goals as goal
+
+pub loop-i-init : goal.loop-i-init
+loop-i-init c = lines_none
+
+pub loop-i-preserved : goal.loop-i-preserved
+loop-i-preserved c =
+    let t = c.args.steps.now in
+    let l = c.loop-i in
+    let p = c.put_step-end in
+    lines_more l.invariant c.loop-i-test.true (step_row_lem t l.i) (rw (c.entry_at-kind.ensures, c.entry_at-number.ensures) at p.ensures) p.auto.out
+
+pub shape_of-out : goal.shape_of-out
+shape_of-out c = c.loop-i.invariant.long
+
+pub returns : goal.returns
+returns c = lines_all c.loop-i.invariant c.loop-i-test.false
