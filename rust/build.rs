@@ -1,4 +1,4 @@
-//! Links libperaduksi.a: from the folder that PERADUKSI_LIB names, or from where `rt staticlib peraduksi` writes it.
+//! Links libperaduksi.a: from the folder that PERADUKSI_LIB names, or from where `rt lib` in crates/peraduksi writes it.
 
 use std::env;
 use std::path::PathBuf;
@@ -10,11 +10,11 @@ fn main() {
         Some(folder) => PathBuf::from(folder),
         None => {
             assert!(target == "x86_64", "libperaduksi.a is for x86-64 programs, and this one is for {target}");
-            PathBuf::from(env!("CARGO_MANIFEST_DIR")).join("../target/staticlib")
+            PathBuf::from(env!("CARGO_MANIFEST_DIR")).join("../crates/peraduksi/out")
         }
     };
     let archive = folder.join("libperaduksi.a");
-    assert!(archive.exists(), "{} is missing: run `rt staticlib peraduksi` in the repository", archive.display());
+    assert!(archive.exists(), "{} is missing: run `rt lib` in crates/peraduksi", archive.display());
     println!("cargo:rerun-if-changed={}", archive.display());
     println!("cargo:rustc-link-search=native={}", folder.display());
     println!("cargo:rustc-link-lib=static=peraduksi");

@@ -9,31 +9,37 @@ build_oracle() {
     cargo build --release --quiet --manifest-path "$root/oracle/Cargo.toml" --target-dir "$root/oracle/target"
 }
 
-# The number of crates that NAME stands on by crates.txt, itself included.
+# The crates that NAME stands on by crates.txt, itself included, one a line.
 crates_under() { # NAME
     awk -F: -v name="$1" '
-        /^[a-z_]+:/ { below[$1] = $2 }
+        /^[a-z_]+( staticlib)?:/ { crate = $1; sub(/ .*/, "", crate); below[crate] = $2 }
         function reach(crate,    words, count, at) {
             if (!(crate in below) || crate in reached) return
             reached[crate]
-            all++
+            print crate
             count = split(below[crate], words, " ")
             for (at = 1; at <= count; at++) reach(words[at])
         }
-        END { reach(name); print all + 0 }' "$root/crates.txt"
+        END { reach(name) }' "$root/crates.txt"
 }
 
-# Has rt prove a crate and what it stands on (`rt check NAME`, `rt staticlib NAME`). Each crate gets a line on the error output
-# when it is proved: which of how many, its name, the seconds. Where that fails, all that rt said follows.
+# Has rt prove a crate, what it stands on first, and build it (`rt run` in the crate's folder, of a program, which it then runs on an
+# empty input; `rt lib`, of a library). Each crate that has changed gets a line on the error output when it is proved: how many of how
+# many are, its name, the seconds. Where that fails, all that rt said follows.
 prove() { # WORD NAME
-    local log=$root/target/$1.log all now=0 line status
-    all=$(crates_under "$2")
+    local log=$root/target/$2.log all line crate='' began=$SECONDS under status
+    local -A proved=()
+    all=$(crates_under "$2" | wc -l)
     mkdir -p "$root/target"
     echo "proving and building $2 over $((all - 1)) other crates, some minutes from nothing .." >&2
-    (cd "$root" && rt "$1" "$2" 2>&1 </dev/null) | tee "$log" | while IFS= read -r line; do
-        if [[ $line =~ ^rt:\ ([a-z_]+)\ proved\ \((unchanged|[0-9]+\ s) ]]; then
-            now=$((now + 1))
-            [[ ${BASH_REMATCH[2]} == unchanged ]] || echo "proved $now of $all: ${BASH_REMATCH[1]}, ${BASH_REMATCH[2]}" >&2
+    (cd "$root/crates/$2" && rt "$1" 2>&1 </dev/null) | tee "$log" | while IFS= read -r line; do
+        if [[ $line =~ ^crate\ ([a-z_]+):\  ]]; then
+            crate=${BASH_REMATCH[1]}
+        elif [[ -n $crate && $line == logic=proved\ * ]]; then
+            # What a crate stands on is proved before it, and has no line where nothing in it has changed.
+            while read -r under; do proved[$under]=; done < <(crates_under "$crate")
+            echo "proved ${#proved[@]} of $all: $crate, $((SECONDS - began)) s" >&2
+            crate='' began=$SECONDS
         fi
     done
     status=${PIPESTATUS[0]}
@@ -41,28 +47,31 @@ prove() { # WORD NAME
     return "$status"
 }
 
-# Puts the words that run an x86-64 program into `program`, and the kit's folder into `kit`. It is run as rt runs it: with the kit's
-# loader and C library, and with the kit's emulator where it has one, on a processor that is not x86-64.
-run_by_kit() { # PROGRAM
-    local guide
-    guide=$(rt doc)
-    kit=${guide%/docs/START-HERE.md}/on/$(uname -m)/toolchain
-    program=("$kit/lib/ld-linux-x86-64.so.2" --library-path "$kit/lib" "$1")
-    if [[ -x $kit/bin/qemu-x86_64 ]]; then
-        program=("$kit/bin/qemu-x86_64" "${program[@]}")
-    fi
+# Is a file there, and no older than what the crates are made of?
+is_current() { # FILE
+    [[ -e $1 && -z $(find "$root"/crates/*/{src,specs,proofs} "$root/crates.txt" -newer "$1" -print -quit 2>/dev/null) ]]
 }
 
-# Sees to it that target/bin/NAME is there and no older than the crates, and puts the words that run it into `program`.
+# Puts the words that run an x86-64 program with the kit's loader and C library into `program`, and the kit's toolchain into `kit`.
+run_by_kit() { # PROGRAM
+    local guide
+    guide=$(rt doc </dev/null)
+    kit=${guide%/*}/toolchain
+    program=("$kit/lib/ld-linux-x86-64.so.2" --library-path "$kit/lib" "$1")
+}
+
+# Sees to it that the program NAME is built and no older than the crates, and puts the words that run it into `program`.
 build_program() { # NAME
-    local built=$root/target/bin/$1
-    if [[ ! -x $built || -n $(find "$root/crates" "$root/crates.txt" -newer "$built" -print -quit) ]]; then
+    local built=$root/crates/$1/out/$1
+    if ! is_current "$built"; then
         mkdir -p "$root/target" && : >"$root/target/began"
-        prove check "$1" || return 1
+        prove run "$1" || return 1
         # What has not changed is not built again, and need not be asked about again.
         touch -r "$root/target/began" "$built"
     fi
-    run_by_kit "$built"
+    program=("$built")
+    # A processor that runs x86-64 programs by an emulator has no loader and C library of its own for them.
+    [[ $(uname -m) == x86_64 ]] || run_by_kit "$built"
 }
 
 # Is the processor one that the static library is for? Says why not.
@@ -70,11 +79,13 @@ links_library() {
     [[ $(uname -m) == x86_64 ]] || { echo "the static library links into x86-64 programs only: $1 is left out here"; return 1; }
 }
 
-# Sees to it that target/staticlib/libperaduksi.a is there and no older than the crates.
+# Sees to it that the static library is built and no older than the crates.
+archive=$root/crates/peraduksi/out/libperaduksi.a
 build_library() {
-    local built=$root/target/staticlib/libperaduksi.a
-    if [[ ! -e $built || -n $(find "$root/crates" "$root/crates.txt" -newer "$built" -print -quit) ]]; then
-        prove staticlib peraduksi || return 1
+    if ! is_current "$archive"; then
+        mkdir -p "$root/target" && : >"$root/target/began"
+        prove lib peraduksi || return 1
+        touch -r "$root/target/began" "$archive"
     fi
 }
 
@@ -97,6 +108,6 @@ build_driver() {
     "$kit/bin/clang" --target=x86_64-linux-gnu -std=c11 -Wall -Wextra -Werror -O2 -fPIC -ffreestanding -nostdinc \
         -isystem "$(cc -print-file-name=include)" -I"$root/include" -c "$root/compare/driver/calls.c" -o "$built.o" &&
         "$kit/bin/ld.lld" -pie --dynamic-linker "$kit/lib/ld-linux-x86-64.so.2" -o "$built" "$kit/lib/Scrt1.o" "$kit/lib/crti.o" \
-            "$kit/lib/crtbeginS.o" "$built.o" "$root/target/staticlib/libperaduksi.a" "$kit/lib/libc.so.6" "$kit/lib/libc_nonshared.a" \
+            "$kit/lib/crtbeginS.o" "$built.o" "$archive" "$kit/lib/libc.so.6" "$kit/lib/libc_nonshared.a" \
             "$kit/lib/libgcc.a" "$kit/lib/crtendS.o" "$kit/lib/crtn.o" || return 2
 }
