@@ -1,10 +1,10 @@
 -- The walk answers with the first break, for every room:
---     first-break : (walk room 0 os xs ≡ answer k p) × ¬ (answer k p ≡ answer 0 0) ↔ Breaks room os xs k p
+--     first_break : (walk room 0 os xs ≡ answer k p) × ¬ (answer k p ≡ answer 0 0) ↔ Breaks room os xs k p
 --     settled : walk room 0 (o ∷ []) xs ≡ a ↔ Settled room o xs a
 --     one_answer : Settled room o xs a → Settled room o xs b → a ≡ b
---     left-over : Reaches room n os xs os' left → left ≡ drop n xs
---     short-place : Breaks room os xs 12 p → p ≡ suc (length xs)
---     break-range : Breaks room os xs k p → (7 ≤ k) × (k ≤ 12) × (0 < p) × (p ≤ suc (length xs))
+--     left_over : Reaches room n os xs os' left → left ≡ drop n xs
+--     short_place : Breaks room os xs 12 p → p ≡ suc (length xs)
+--     break_range : Breaks room os xs k p → (7 ≤ k) × (k ≤ 12) × (0 < p) × (p ≤ suc (length xs))
 use Rattle.std.specs.Prelude.{ℕ, suc, ◌+◌, ◌≤◌, ◌<◌, ◌≡◌, ◌↔◌, length, drop}
 use Rattle.std.proofs.Math.Path.{refl, ap}
 use Rattle.std.proofs.Common.{sym, ◌∙◌, arith}

@@ -1,9 +1,9 @@
 -- A limit turns an answer into 10 and does nothing else, for every room:
---     limits-only : Limited room i os xs (walk room i os xs) (walk free i os xs): the two are the same, or the first one is
+--     limits_only : Limited room i os xs (walk room i os xs) (walk free i os xs): the two are the same, or the first one is
 --         answer 10 (suc j + i), where the first j steps go through within the room and the next goes by its rule but passes it
---     never-ten : without limits 10 is never the answer
---     derivation-free : Derivation room o xs → Derivation free o xs
-use Rattle.std.specs.Prelude.{ℕ, suc, ◌+◌, ◌≡◌, refl, true, List, [], ◌∷◌, ◌++◌, length}
+--     never_ten : without limits 10 is never the answer
+--     derivation_free : Derivation room o xs → Derivation free o xs
+use Rattle.std.specs.Prelude.{ℕ, suc, ◌≡◌, refl, true, List, [], ◌∷◌, ◌++◌, length}
 use Rattle.std.proofs.Common.{sym, ◌∙◌, ap, arith}
 use Rattle.scope.specs.Tools.Tests.{never}
 use Rattle.scope.specs.Call.Answer.{Answer, answer}

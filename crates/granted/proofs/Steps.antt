@@ -1,7 +1,7 @@
 -- One step on one obligation. The move that is computed is the rule's, and its refusals are those of document 01's table:
---     rule-step : Rule o x os ↔ step_on x o.sequent o.phase ≡ onto os
---     one-result : Rule o x os → Rule o x os' → os ≡ os'
---     refuses-step : Refuses o x k ↔ step_on x o.sequent o.phase ≡ refuse k
+--     rule_step : Rule o x os ↔ step_on x o.sequent o.phase ≡ onto os
+--     one_result : Rule o x os → Rule o x os' → os ≡ os'
+--     refuses_step : Refuses o x k ↔ step_on x o.sequent o.phase ≡ refuse k
 use Rattle.std.specs.Prelude.{ℕ, ◌≡◌, refl, Bool, true, false, List, ◌↔◌, eqb, ltb}
 use Rattle.std.proofs.Common.{◌∙◌, subst, arith, lt-ltb, eq-eqb}
 use Rattle.std.proofs.Math.Option.{Option, some}

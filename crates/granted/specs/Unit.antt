@@ -1,5 +1,5 @@
 -- Unit grants what plain grants: the same steps derive the same goal, within the same limits.
---     unit-grants : Derivation within (start plain k policy g) xs → Derivation within (start unit k policy g) xs
+--     unit_grants : Derivation within (start plain k policy g) xs → Derivation within (start unit k policy g) xs
 use Rattle.std.specs.Prelude.{ℕ, ◌+◌, ◌≤◌, ◌≡◌, refl, List, [], ◌∷◌, map, length}
 use Rattle.std.proofs.Common.{ap, ◌∙◌, arith}
 use Rattle.std.proofs.lemmas.List.{length-map}
