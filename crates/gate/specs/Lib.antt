@@ -1,2 +1,3 @@
 -- What the contracts of the gate program cite.
+pub mod Answered
 pub mod Shown
