@@ -12,7 +12,8 @@ use Rattle.scope.specs.Limits.{most_formulas, principals_at, atoms_at, formulas_
 use Rattle.classes.specs.Rows.{form_row, form_rows, unpack_length}
 use Rattle.numbering.specs.Slots.{most_slots, place_in, kept_at, earlier_at}
 use Rattle.numbering.specs.Numbered.{Numbered, numbered_none}
-use Rattle.numbering.specs.Refused.{repeat_refusal, repeat_told, fresh_kept, neither_refused}
+use Rattle.numbering.specs.Refused.{repeat_refusal, repeat_told, neither_refused}
+use Rattle.numbering.proofs.Refused.{fresh_kept}
 use Rattle.checks.specs.declared.Checked.{Checked}
 use Rattle.checks.specs.declared.Checked.TheVariants.{Fine}
 use Rattle.checks.specs.Met.{checked_of, met_in}

@@ -21,7 +21,8 @@ use Rattle.trip.specs.Cuts.{free}
 use Rattle.trip.specs.Words.{form_kinds_neat, step_kinds_neat}
 use Rattle.trip.specs.LineRefusals.{OfLine, shape, in_shape_lem, mild_none, count_mild, form_mild, clause_mild, goal_mild, step_mild}
 use Rattle.trip.specs.LineStops.{number_own, logic_own, row_own}
-use Rattle.trip.specs.Places.{Before, Where, of_line, of_rest, behind, behind_told, refused_where}
+use Rattle.trip.specs.Places.{Before, Where, of_line, of_rest, behind, behind_told}
+use Rattle.trip.proofs.Places.{refused_where}
 use Rattle.columns.specs.Unique.{one_column}
 use Rattle.columns.specs.Small.{form_line_small, step_line_small}
 use Rattle.columns.specs.Lines as Lines

@@ -14,7 +14,8 @@ use Rattle.scope.specs.Tools.Tests.{never}
 use Rattle.trip.specs.Cuts.{strip_back}
 use Rattle.trip.specs.LineRefusals.{Mild}
 use Rattle.trip.specs.LineStops.{OwnLine}
-use Rattle.trip.specs.LinePlaces.{lfs, whole, lfs_append, whole_append, nothing_whole, no_lf, line_missing, From, line_from, then_from, done_from, from_as, from_told, further_from}
+use Rattle.trip.specs.LinePlaces.{lfs, whole, lfs_append, whole_append, nothing_whole, no_lf, From, then_from, done_from, from_as, from_told, further_from}
+use Rattle.trip.proofs.LinePlaces.{line_missing, line_from}
 use Rattle.trip.specs.Several.{bad_moved}
 use Rattle.columns.specs.Unique.{Prefix, shorter, alike, longer, compared}
 use Rattle.columns.specs.Refused.{ended_read}

@@ -1,6 +1,6 @@
 -- The demands for the gate, from a file's bytes to the four numbers printed.
 use Rattle.std.specs.Prelude.{ℕ, ◌*◌, ◌≡◌, refl, List, length}
-use Rattle.std.proofs.Common.{sym, ap, ◌∙◌, arith}
+use Rattle.std.proofs.Common.{sym, ap, ◌∙◌}
 use Rattle.scope.specs.Call.Result.{result, refused}
 use Rattle.scope.specs.Call.Answer.{Answer, told, answer}
 use Rattle.scope.specs.Limits.{most_formulas, most_policy_lines, most_steps}
@@ -13,10 +13,10 @@ use Rattle.scope.specs.Logic.Room.{within}
 use Rattle.scope.specs.Call.Judge.{policy_of, goal_of, steps_of, start_of, steps_answer, else, judge, Printed, prints, printed, printed_after, gate}
 use Rattle.scope.specs.Logic.Models.{Entailed}
 use Rattle.granted.specs.Reasons.{Settled, grants, breaks}
-use Rattle.trip.specs.Requests.{read_unrefused}
-use Rattle.trip.specs.Trip.{got, read_fine, fine_checked}
-use Rattle.demands.specs.Ranges.{reading_firm}
-use Rattle.demands.specs.Judged.{steps_settled, zero_granted, steps_entail, judge_law, else_passes}
+use Rattle.trip.proofs.Requests.{read_unrefused}
+use Rattle.trip.specs.Trip.{got}
+use Rattle.trip.proofs.Trip.{read_fine, fine_checked}
+use Rattle.demands.specs.Judged.{steps_settled, steps_entail, judge_law, else_passes}
 
 -- The gate reads into tables of just the room that is asked for.
 abbrev pub gate_reads : List ℕ → Outcome
@@ -71,21 +71,6 @@ pub record Granting (s : List ℕ) (q : Request) : Type 0 where
 -- Demand 2: granted exactly then.
 pub gate_grants : (s : List ℕ) (q : Request) → Granting s q → gate s ≡ prints 0 0 (length q.steps) 0
 gate_grants s q g = prints_gate s (prints 0 0 (length q.steps) 0) (answered g.reads (grants g.derives))
-
-granting : (s : List ℕ) (p : Printed) (place n column : ℕ) → Prints s p → p ≡ prints 0 place n column →
-    (q : Request) × Granting s q × (length q.steps ≡ n)
-granting s p place n column (unread {k = k} {place = i} {column = c} e) z =
-    let y : k ≡ 0 = cc in
-    let f = reading_firm (3 * most_formulas) most_policy_lines (2 * most_steps) s k i c e in
-    absurd (omega arith)
-granting s p place n column (answered {q = q} {k = k} {place = r} e f) z =
-    let a : k ≡ 0 = cc in
-    let b : length q.steps ≡ n = cc in
-    (q, record { reads = e; derives = zero_granted q (answer k r) r 0 f (ap (λ x. answer x r) a) }, b)
-
--- and nothing else is: an answer 0 comes of a request that was read, whose steps are a derivation, and counts its steps.
-pub granted_gate : (s : List ℕ) (place n column : ℕ) → gate s ≡ prints 0 place n column → (q : Request) × Granting s q × (length q.steps ≡ n)
-granted_gate s place n column e = granting s (gate s) place n column (gate_prints s) e
 
 -- Demand 3.
 pub gate_entails : (s : List ℕ) (q : Request) → Granting s q → Entailed q.logic q.principals q.atoms (policy_of q) (goal_of q)

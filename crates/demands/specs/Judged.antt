@@ -1,7 +1,7 @@
 -- Demands 2 and 3 for the judge: its answer for every lent tables and counts is the refusal of their checks, or else granted exactly when the
 -- steps are a derivation within the limits, or else the first step that breaks the rules; and what is granted holds in every model of its logic.
-use Rattle.std.specs.Prelude.{ℕ, zero, suc, ◌<◌, ◌≡◌, refl, ◌↔◌}
-use Rattle.std.proofs.Common.{sym, ◌∙◌, arith}
+use Rattle.std.specs.Prelude.{ℕ, zero, suc, ◌≡◌, refl, ◌↔◌}
+use Rattle.std.proofs.Common.{◌∙◌, arith}
 use Rattle.scope.specs.Call.Answer.{Answer, told, answer}
 use Rattle.scope.specs.File.Request.{Request}
 use Rattle.scope.specs.Call.Tables.{Lent, request_of}
@@ -9,14 +9,14 @@ use Rattle.scope.specs.Call.Checked.{checked}
 use Rattle.scope.specs.Logic.Derivation.{Derivation}
 use Rattle.scope.specs.Logic.Room.{within}
 use Rattle.scope.specs.Call.Judge.{policy_of, goal_of, steps_of, start_of, steps_answer, else, judge}
-use Rattle.scope.specs.Logic.Models.{Model, ModelOf, Sat, SatAll, Entailed}
+use Rattle.scope.specs.Logic.Models.{Entailed}
 use Rattle.granted.specs.Reasons.{Settled, grants, breaks}
-use Rattle.granted.specs.Statements.{granted, settled}
-use Rattle.granted.specs.FirstBreak.{break_range}
-use Rattle.sound.specs.Rows.{request_sound}
+use Rattle.granted.proofs.Statements.{granted, settled}
+use Rattle.granted.proofs.FirstBreak.{break_range}
+use Rattle.sound.proofs.Rows.{request_sound}
 use Rattle.scope.specs.Tools.Tests.{never}
 use Rattle.trip.specs.File.{Unrefused}
-use Rattle.trip.specs.Trip.{checked_fine, unmet}
+use Rattle.trip.specs.Trip.{unmet}
 use Rattle.demands.specs.InRange.{rows_in}
 use Rattle.demands.specs.Ranges.{checked_range}
 
@@ -76,10 +76,6 @@ allowed_judge t a (by_tables {k} {place} e) = rw (judge_law t, e) (else_refused 
 allowed_judge t a (by_steps e s) =
     rw (judge_law t, e) (else_passes 0 0 (steps_answer (request_of t)) ∙ (steps_settled (request_of t) a).1 s)
 
--- So any two answers allowed are equal.
-pub one_judgement : (t : Lent) (a b : Answer) → Answers t a → Answers t b → a ≡ b
-one_judgement t a b p q = sym (allowed_judge t a p) ∙ allowed_judge t b q
-
 -- Tables and counts that pass their checks, and steps that are a derivation by the rules within the limits.
 pub record Grants (t : Lent) : Type 0 where
   pub fine : checked t ≡ answer 0 0
@@ -89,24 +85,3 @@ pub record Grants (t : Lent) : Type 0 where
 pub allowed_grants : (t : Lent) (a : Answer) (r c : ℕ) → a ≡ told 0 r c → Answers t a → Grants t
 allowed_grants t a r c e (by_tables d) = never cc
 allowed_grants t a r c e (by_steps d s) = record { fine = d; derives = zero_granted (request_of t) a r c s e }
-
--- Demand 2: granted exactly then.
-pub judge_grants : (t : Lent) → judge t ≡ answer 0 0 ↔ Grants t
-judge_grants t = (λ e. allowed_grants t (judge t) 0 0 e (judge_allowed t), back)
-  where
-    back : Grants t → judge t ≡ answer 0 0
-    back g = allowed_judge t (answer 0 0) (by_steps g.fine (grants g.derives))
-
--- Demand 3: what is granted holds in every finite model of its logic over the request's principals and atoms, at each world where the policy holds.
-pub judge_entails : (t : Lent) → judge t ≡ answer 0 0 →
-    Entailed t.logic t.principals t.atoms (policy_of (request_of t)) (goal_of (request_of t))
-unfolding request_of
-judge_entails t e =
-    let g = (judge_grants t).0 e in
-    steps_entail (request_of t) (checked_fine t g.fine).unrefused ((steps_settled (request_of t) (answer 0 0)).1 (grants g.derives))
-
--- In the other form: a request that some model refutes is not granted.
-pub judge_refuted : (t : Lent) (m : Model) → ModelOf t.logic t.principals t.atoms m → (w : ℕ) → w < m.worlds →
-    SatAll m w (policy_of (request_of t)) → (Sat m w (goal_of (request_of t)) → ⊥) → judge t ≡ answer 0 0 → ⊥
-unfolding Entailed
-judge_refuted t m f w b p r e = r (judge_entails t e m f w b p)

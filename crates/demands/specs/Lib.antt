@@ -3,4 +3,3 @@ pub mod Judged
 pub mod Ranges
 pub mod Gate
 pub mod AnswerRanges
-pub mod Statements

@@ -1,8 +1,8 @@
 -- The numbers, places and columns of refusals before the steps, as document 01's table 'What comes back' has them.
---     reading-range : reading forms lines steps s ≡ refused (told k place column) → ByReading s k place column
---     checked-range : checked t ≡ told (suc k) place column → ByChecks (suc k) place × (column ≡ 0)
---     writing-range : writing t len ≡ refused (told k place column) → ByWriting k place × (column ≡ 0)
--- So reading refuses 1 to 6, 13 or 15 (`read_number`), and no refusal has number 0 (`reading_firm`).
+--     reading_range : reading forms lines steps s ≡ refused (told k place column) → ByReading s k place column
+--     checked_range : checked t ≡ told (suc k) place column → ByChecks (suc k) place × (column ≡ 0)
+--     writing_range : writing t len ≡ refused (told k place column) → ByWriting k place × (column ≡ 0)
+-- So reading refuses 1 to 6, 13 or 15 (`read_number`), and no refusal has number 0 (`reading_firm`): proofs/Ranges.
 use Rattle.std.specs.Prelude.{ℕ, zero, suc, ◌+◌, ◌<◌, ◌≤◌, ◌≡◌, refl, Bool, true, false, cond, List, [], ◌∷◌, ◌++◌, map, ◌⊎◌, leb, eqb, length}
 use Rattle.std.proofs.Common.{inl, inr, arith}
 use Rattle.scope.specs.Call.Result.{result, refused}
@@ -19,7 +19,8 @@ use Rattle.scope.specs.Call.Checked.{first_met, each_of, body_answers, line_answ
 use Rattle.scope.specs.Call.Calls.{reading, written_if, writing}
 use Rattle.scope.specs.Tools.Tests.{never}
 use Rattle.trip.specs.LineRefusals.{InShape, range, later, twice, class, OfLine, shape, in_shape_lem, Mild, count_mild, form_mild, clause_mild, goal_mild, step_mild}
-use Rattle.trip.specs.Places.{Where, of_line, of_rest, refused_where}
+use Rattle.trip.specs.Places.{Where, of_line, of_rest}
+use Rattle.trip.proofs.Places.{refused_where}
 
 -- Of reading: 13 and 1 at place 0; 2 to 5 and 15 at the line that met it, and 6 at the line behind the last (`Where`). Only 2 has a column.
 pub data ByReading (s : List ℕ) (k place column : ℕ) : Type 0 where
@@ -73,41 +74,9 @@ pub where_number : {s : List ℕ} {k i c : ℕ} → Where s k i c → Between 2 
 where_number (of_line b n d w) = (between_wider (omega arith) (omega arith) (of_line_number n), omega (arith, b.place))
 where_number (of_rest b q e z d) = (inl (omega arith), omega (arith, b.place))
 
-read_by : {s : List ℕ} {k place column : ℕ} → ByReading s k place column → Between 1 6 k ⊎ (k ≡ 13)
-read_by (no_room e p c) = inr e
-read_by (too_long e p c) = inl (inl (omega arith))
-read_by (at_line w) = inl (between_wider (omega arith) (omega arith) (where_number w).0)
-
-pub read_number : (forms lines steps : ℕ) (s : List ℕ) (k place column : ℕ) → reading forms lines steps s ≡ refused (told k place column) →
-    Between 1 6 k ⊎ (k ≡ 13)
-read_number f l n s k place column e = read_by (reading_range f l n s k place column e)
-
-some_number : {least most k : ℕ} → 0 < least → Between least most k → 0 < k
+pub some_number : {least most k : ℕ} → 0 < least → Between least most k → 0 < k
 some_number h (inl b) = omega arith
 some_number h (inr e) = omega arith
-
-not_thirteen : {least most k : ℕ} → most < 13 → Between least most k → k ≡ 13 → ⊥
-not_thirteen h (inl b) t = omega arith
-not_thirteen h (inr e) t = omega arith
-
-firm : {s : List ℕ} {k place column : ℕ} → ByReading s k place column → 0 < k
-firm (no_room e p c) = omega arith
-firm (too_long e p c) = omega arith
-firm (at_line w) = some_number (omega arith) (where_number w).0
-
--- A file that reads to nothing is never taken for granted.
-pub reading_firm : (forms lines steps : ℕ) (s : List ℕ) (k place column : ℕ) → reading forms lines steps s ≡ refused (told k place column) → 0 < k
-reading_firm f l n s k place column e = firm (reading_range f l n s k place column e)
-
--- Tables with room are never found too short.
-pub with_room : (forms lines steps : ℕ) (s : List ℕ) (k place column : ℕ) → has_room forms lines steps ≡ true →
-    reading forms lines steps s ≡ refused (told k place column) → k ≡ 13 → ⊥
-unfolding reading
-with_room f l n s k place column h e t = go (leb (length s) most_bytes) (rw h at e)
-  where
-    go : (b : Bool) → cond b (read_request s) (refused (answer 1 0)) ≡ refused (told k place column) → ⊥
-    go true d = not_thirteen (omega arith) (where_number (refused_where s k place column d)).0 t
-    go false d = let z : 1 ≡ k = cc in omega arith
 
 -- The checks: the first refusal met in a list of answers is in its range, put together from the lists of a request's lines.
 record Ranged (By : ℕ → ℕ → Type 0) (list : List Answer) : Type 0 where

@@ -9,4 +9,3 @@ pub mod NewKept
 pub mod Grown
 pub mod Noted
 pub mod Root
-pub mod Exact

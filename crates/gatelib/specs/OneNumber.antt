@@ -11,10 +11,10 @@ use Rattle.scope.specs.File.Refusals.{is_among}
 use Rattle.scope.specs.File.Request.{Row, Request, formula}
 use Rattle.scope.specs.Tools.Tests.{never}
 use Rattle.trip.specs.File.{Unrefused}
-use Rattle.trip.specs.Requests.{read_unrefused}
+use Rattle.trip.proofs.Requests.{read_unrefused}
 use Rattle.trip.specs.RowRanges.{NewRow, form_passed}
 use Rattle.trip.specs.Several.{each_at}
-use Rattle.trip.specs.Trip.{checked_fine}
+use Rattle.trip.proofs.Trip.{checked_fine}
 use Rattle.numbering.specs.Equal.{no_row, NoRepeat, found, among_found, no_repeat}
 use Rattle.numbering.specs.Trees.{Fair, one_number}
 

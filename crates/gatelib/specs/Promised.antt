@@ -6,7 +6,8 @@ use Rattle.scope.specs.File.Request.{Request}
 use Rattle.scope.specs.Call.Judge as J
 use Rattle.scope.specs.Call.Judge.{policy_of, goal_of, prints, gate}
 use Rattle.scope.specs.Logic.Models.{Entailed}
-use Rattle.demands.specs.Gate.{Granting, granted_gate, gate_grants, gate_entails}
+use Rattle.demands.specs.Gate.{Granting, gate_grants, gate_entails}
+use Rattle.demands.proofs.Gate.{granted_gate}
 use Rattle.gatelib.specs.declared.Printed.{Printed}
 use Rattle.gatelib.specs.Printing.{printed_of}
 

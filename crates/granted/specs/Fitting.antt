@@ -1,5 +1,5 @@
 -- A step fits its obligation, or the move that is computed is refusal 7:
---     fits-or-seven : (x : Step) (s : Sequent) (p : Phase) → Fitting (ob s p) x (step_on x s p)
+--     fits_or_seven : (x : Step) (s : Sequent) (p : Phase) → Fitting (ob s p) x (step_on x s p)
 -- Each handler of the walk (a phase, a kind of formula) has one lemma; the eighteen steps are then a line each.
 use Rattle.std.specs.Prelude.{ℕ, List}
 use Rattle.scope.specs.Logic.Form as F

@@ -8,7 +8,7 @@ use Rattle.std.proofs.lemmas.Bool.{eqb-false}
 use Rattle.scope.specs.Logic.Form as F
 use Rattle.scope.specs.Logic.Form.{is_sf, negate}
 use Rattle.scope.specs.Logic.Facts.{Fact, le, by, sf}
-use Rattle.scope.specs.Closing.Agree.{agree_sound, decide_fact}
+use Rattle.scope.proofs.Closing.Agree.{agree_sound, decide_fact}
 use Rattle.scope.specs.Logic.Derivation.{Has, Rule, by_and, by_or1, by_or2, by_imp, by_says, by_top, by_sf, by_use, by_left, by_right, by_to_imp}
 use Rattle.scope.specs.Logic.Derivation.{by_to_says, by_hit, by_push, by_split, by_case, by_absurd, by_drop, by_note}
 use Rattle.scope.specs.Logic.Obligation.{Lab, lab, Sequent, Phase, goal, focus, Obligation, ob}

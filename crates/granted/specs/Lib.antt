@@ -1,11 +1,5 @@
 pub mod Reasons
 pub mod Judged
 pub mod Fitting
-pub mod Steps
-pub mod Refusals
-pub mod Walks
-pub mod Granted
-pub mod FirstBreak
 pub mod LimitsOnly
 pub mod Unit
-pub mod Statements

@@ -1,11 +1,11 @@
 -- Unit grants what plain grants: the same steps derive the same goal, within the same limits.
---     unit-grants : Derivation within (start plain k policy g) xs → Derivation within (start unit k policy g) xs
+--     unit_grants : Derivation within (start plain k policy g) xs → Derivation within (start unit k policy g) xs
 use Rattle.std.specs.Prelude.{ℕ, ◌+◌, ◌≤◌, ◌≡◌, refl, List, [], ◌∷◌, map, length}
 use Rattle.std.proofs.Common.{ap, ◌∙◌, arith}
 use Rattle.std.proofs.lemmas.List.{length-map}
 use Rattle.scope.specs.Logic.Form.{Form}
 use Rattle.scope.specs.Logic.Facts.{Fact, le, by, sf, plain, unit, Sheet, Named, Basis, basis}
-use Rattle.scope.specs.Closing.Laws.{larger}
+use Rattle.scope.proofs.Closing.Laws.{larger}
 use Rattle.scope.specs.Logic.Obligation.{Lab, Sequent, goal, Obligation, ob, Step, start}
 use Rattle.scope.specs.Logic.Derivation.{Has, Rule, by_and, by_or1, by_or2, by_imp, by_says, by_top, by_sf, by_use, by_left, by_right, by_to_imp}
 use Rattle.scope.specs.Logic.Derivation.{by_to_says, by_hit, by_push, by_split, by_case, by_absurd, by_drop, by_note}

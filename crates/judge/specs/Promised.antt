@@ -7,7 +7,8 @@ use Rattle.scope.specs.Call.Answer.{told}
 use Rattle.scope.specs.Call.Tables.{Lent, request_of}
 use Rattle.scope.specs.Call.Judge.{policy_of, goal_of, judge}
 use Rattle.scope.specs.Logic.Models.{Entailed}
-use Rattle.demands.specs.Judged.{Grants, judge_allowed, allowed_grants, judge_grants, judge_entails}
+use Rattle.demands.specs.Judged.{Grants, judge_allowed, allowed_grants}
+use Rattle.demands.proofs.Judged.{judge_grants, judge_entails}
 use Rattle.common.specs.declared.Answer.{Answer}
 use Rattle.common.specs.Answers.{answer_of}
 

@@ -1,26 +1,24 @@
 -- A table in which equal formulas have one number: a row that is there keeps its number, another becomes the next.
 use Prim.Native.Nat.{ℕ, suc, ◌+◌, ◌*◌, ◌≤◌, ◌<◌}
 use native.Mathlib.Omega.{arith}
-use Rattle.std.proofs.Math.Numerals.{add-one}
 use Rattle.std.specs.Prelude.{◌≡◌, Bool, true, false, List, [], ◌∷◌, ◌++◌, ltb, get_or, set}
 use Rattle.std.proofs.Math.Path.{refl, ap, sym}
 use Rattle.std.proofs.Common.{◌∙◌, ext_get_or, lt-ltb, le-ltb}
 use Rattle.std.proofs.Math.Bool.{cond}
 use Rattle.std.proofs.Math.Option.{Option, none, some}
-use Rattle.std.proofs.Math.ListN.{length, length-set, length-append}
+use Rattle.std.proofs.Math.ListN.{length, length-set}
 use Rattle.std.proofs.Math.Seq.{get_or-set_same, get_or-set_other}
 use Rattle.scope.specs.File.Request.{Row}
 use Rattle.scope.specs.Limits.{most_formulas}
 use Rattle.scope.specs.Call.Tables.{form_entry, unpack}
-use Rattle.scope.specs.Tools.Tests.{never}
 use Rattle.classes.specs.Rows.{form_row, form_rows, unpack_length}
 use Rattle.numbering.specs.declared.Place.{Place}
 use Rattle.numbering.specs.declared.Place.TheVariants.{Taken, Free}
 use Rattle.numbering.specs.declared.Given.{Given}
 use Rattle.numbering.specs.declared.Given.TheVariants.{Number, Full}
 use Rattle.numbering.specs.Equal.{no_row, found}
-use Rattle.numbering.specs.Slots.{place_in, kept_at, number_at, kept_taken}
-use Rattle.numbering.specs.Numbered.{Numbered, row_at_lem, numbered_found, numbered_more}
+use Rattle.numbering.specs.Slots.{place_in, kept_at}
+use Rattle.numbering.specs.Numbered.{Numbered, row_at_lem}
 
 -- The number of a row, and the rows with it.
 unfoldable pub number_or : Option ℕ → ℕ → ℕ
@@ -134,39 +132,3 @@ pub record Named (t : List ℕ) (n : ℕ) (slots : List ℕ) (r : Row) : Type 0 
   pub given : given_at (place_in t slots r) n ≡ Number (number_in (unpack form_entry n t) r)
   pub rows : unpack form_entry (length (rows_with (unpack form_entry n t) r)) (written_at (place_in t slots r) n r t) ≡ rows_with (unpack form_entry n t) r
   pub keeps : Numbered (written_at (place_in t slots r) n r t) (length (rows_with (unpack form_entry n t) r)) (kept_at (place_in t slots r) n slots)
-
-module _ (t : List ℕ) (n : ℕ) (slots : List ℕ) (w : Numbered t n slots) (r : Row) (long : 3 * most_formulas ≤ length t) where
-  place_of : (o : Option ℕ) (p : Place) → number_at p ≡ o → found (unpack form_entry n t) r ≡ o → place_in t slots r ≡ p →
-      (o ≡ none → n < most_formulas) → Named t n slots r
-  unfolding number_at number_in rows_with number_or rows_or
-  place_of none (Taken j) e f h room = never cc
-  place_of (some j) (Free s) e f h room = never cc
-  place_of (some j) (Taken i) e f h room =
-      let same : i ≡ j = cc in
-      let is = given_taken (place_in t slots r) n r t i h in
-      let size : length (rows_with (unpack form_entry n t) r) ≡ n = ap length with_some ∙ unpack_length form_entry n t in
-      record {
-        given = is.0 ∙ ap Number (same ∙ sym (ap (λ o. number_or o (length (unpack form_entry n t))) f));
-        rows = ap (λ m. unpack form_entry m (written_at (place_in t slots r) n r t)) size ∙ ap (unpack form_entry n) is.1 ∙ sym with_some;
-        keeps = rw (size, is.1, kept_taken (place_in t slots r) i n slots h) w;
-      }
-    where
-      with_some : rows_with (unpack form_entry n t) r ≡ unpack form_entry n t
-      with_some = ap (λ o. rows_or o (unpack form_entry n t) (unpack form_entry n t ++ (r ∷ []))) f
-  place_of none (Free s) e f h room =
-      let less : n < most_formulas = room refl in
-      let is = given_free (place_in t slots r) n r t s h less in
-      let size : length (rows_with (unpack form_entry n t) r) ≡ suc n =
-      ap length with_none ∙ length-append (unpack form_entry n t) (r ∷ []) ∙ ap (λ m. m + 1) (unpack_length form_entry n t) ∙ add-one n in
-      let put = row_put_lem t n r (omega arith) in
-      record {
-        given = is.0 ∙ ap Number (sym (ap (λ o. number_or o (length (unpack form_entry n t))) f ∙ unpack_length form_entry n t));
-        rows = ap (λ m. unpack form_entry m (written_at (place_in t slots r) n r t)) size ∙ ap (unpack form_entry (suc n)) is.1 ∙ put ∙ sym with_none;
-        keeps = rw (size, is.1) (numbered_more t n slots w r (row_put t n r) less put f);
-      }
-    where
-      with_none : rows_with (unpack form_entry n t) r ≡ unpack form_entry n t ++ (r ∷ [])
-      with_none = ap (λ o. rows_or o (unpack form_entry n t) (unpack form_entry n t ++ (r ∷ []))) f
-
-  pub numbered_named : (found (unpack form_entry n t) r ≡ none → n < most_formulas) → Named t n slots r
-  numbered_named room = place_of (found (unpack form_entry n t) r) (place_in t slots r) (numbered_found t n slots w r) refl refl room

@@ -1,18 +1,17 @@
 -- Refusal 15 by the slots: where they keep the first n rows, looking for a row tells whether document 02 refuses it as one of them.
-use Rattle.std.specs.Prelude.{ℕ, zero, suc, ◌<◌, List, [], ◌∷◌, ◌++◌}
-use Rattle.std.proofs.Math.Path.{◌≡◌, refl, ap, sym}
+use Rattle.std.specs.Prelude.{ℕ, zero, suc, List}
+use Rattle.std.proofs.Math.Path.{◌≡◌, refl, ap}
 use Rattle.std.proofs.Common.{◌∙◌, arith}
 use Rattle.std.proofs.Math.Option.{Option, none, some}
 use Rattle.scope.specs.Logic.Form.{negate}
 use Rattle.scope.specs.File.Request.{Row}
 use Rattle.scope.specs.File.Refusals.{demand, is_among, first_of}
-use Rattle.scope.specs.Limits.{most_formulas}
 use Rattle.scope.specs.Call.Tables.{form_entry, unpack}
 use Rattle.numbering.specs.declared.Earlier.{Earlier}
 use Rattle.numbering.specs.declared.Earlier.TheVariants.{At, Nothing}
 use Rattle.numbering.specs.Equal.{found, found_among, among_found}
-use Rattle.numbering.specs.Slots.{place_in, kept_at, earlier_at, earlier_of, earlier_number}
-use Rattle.numbering.specs.Numbered.{Numbered, numbered_found, numbered_more}
+use Rattle.numbering.specs.Slots.{place_in, earlier_at, earlier_of, earlier_number}
+use Rattle.numbering.specs.Numbered.{Numbered, numbered_found}
 
 -- 'Refusals: 15 at the line of the second'
 unfoldable pub repeat_refusal : Earlier → ℕ
@@ -35,7 +34,7 @@ neither_refused zero next e = (refl, e)
 neither_refused (suc k) next e = absurd (omega arith)
 
 module _ (t : List ℕ) (n : ℕ) (slots : List ℕ) (w : Numbered t n slots) (r : Row) where
-  told : earlier_at (place_in t slots r) ≡ earlier_of (found (unpack form_entry n t) r)
+  pub told : earlier_at (place_in t slots r) ≡ earlier_of (found (unpack form_entry n t) r)
   told = earlier_number (place_in t slots r) ∙ ap earlier_of (numbered_found t n slots w r)
 
   pub repeat_told : repeat_refusal (earlier_at (place_in t slots r)) ≡ demand (negate (is_among r (unpack form_entry n t))) 15 0
@@ -46,15 +45,3 @@ module _ (t : List ℕ) (n : ℕ) (slots : List ℕ) (w : Numbered t n slots) (r
           repeat_refusal (earlier_of o) ≡ demand (negate (is_among r (unpack form_entry n t))) 15 0
       go none e = rw (found_among (unpack form_entry n t) r e) refl
       go (some j) e = rw (among_found (unpack form_entry n t) r j e) refl
-
-  -- A row that is not refused, kept as row n, of any table whose rows are those and this one.
-  pub fresh_kept : repeat_refusal (earlier_at (place_in t slots r)) ≡ 0 → (t' : List ℕ) → n < most_formulas →
-      unpack form_entry (suc n) t' ≡ unpack form_entry n t ++ (r ∷ []) → Numbered t' (suc n) (kept_at (place_in t slots r) n slots)
-  unfolding repeat_refusal earlier_of
-  fresh_kept e t' room rows = numbered_more t n slots w r t' room rows (go (found (unpack form_entry n t) r) refl)
-    where
-      go : (o : Option ℕ) → found (unpack form_entry n t) r ≡ o → found (unpack form_entry n t) r ≡ none
-      go none f = f
-      go (some j) f =
-          let z : ◌≡◌ {A = ℕ} 15 0 = ap repeat_refusal (ap earlier_of (sym f) ∙ sym told) ∙ e in
-          absurd (omega arith)

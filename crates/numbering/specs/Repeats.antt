@@ -1,6 +1,6 @@
 -- The first row that repeats an earlier one.
-use Rattle.std.specs.Prelude.{ℕ, zero, suc, ◌+◌, ◌≤◌, ◌<◌, ◌≡◌, Bool, true, false, List, ltb, get_or, take, replicate}
-use Rattle.std.proofs.Common.{not-suc-le-zero, add-one, arith, ◌∙◌, ltb-true, ltb-false}
+use Rattle.std.specs.Prelude.{ℕ, zero, suc, ◌≤◌, ◌<◌, ◌≡◌, Bool, true, false, List, ltb, get_or, take, replicate}
+use Rattle.std.proofs.Common.{not-suc-le-zero, arith, ◌∙◌, ltb-true, ltb-false}
 use Rattle.std.proofs.Math.Path.{refl, ap, sym}
 use Rattle.std.proofs.Math.Option.{Option, none, some}
 use Rattle.std.proofs.Math.ListN.{length}
@@ -8,11 +8,11 @@ use Rattle.scope.specs.File.Request.{Row}
 use Rattle.scope.specs.Limits.{most_formulas}
 use Rattle.scope.specs.Call.Tables.{form_entry, unpack}
 use Rattle.scope.specs.Tools.Tests.{never}
-use Rattle.classes.specs.Rows.{form_row, form_row_lem, form_rows, unpack_at, unpack_before, unpack_length}
+use Rattle.classes.specs.Rows.{form_row, form_row_lem, unpack_at, unpack_before, unpack_length}
 use Rattle.numbering.specs.declared.Earlier.TheVariants.{At, Nothing}
 use Rattle.numbering.specs.Equal.{no_row, NoRepeat, found, no_repeat}
-use Rattle.numbering.specs.Slots.{most_slots, place_in, kept_at, earlier_at, earlier_of, earlier_number}
-use Rattle.numbering.specs.Numbered.{Numbered, numbered_none, numbered_found, numbered_more}
+use Rattle.numbering.specs.Slots.{most_slots, place_in, earlier_at, earlier_of, earlier_number}
+use Rattle.numbering.specs.Numbered.{Numbered, numbered_none, numbered_found}
 
 -- Row n, where it is equal to row j before it.
 unfoldable pub repeat_at : ℕ → Option ℕ → Option ℕ
@@ -99,28 +99,13 @@ unfolding repeat_below
 passed_none t n = record { most = omega arith; keeps = numbered_none t; fresh = refl }
 
 module _ (t : List ℕ) (n i : ℕ) (slots : List ℕ) (p : Passed t n i slots) (h : i < n) (few : n ≤ most_formulas) where
-  about : found (take i (unpack form_entry n t)) (get_or (unpack form_entry n t) i no_row) ≡ found (unpack form_entry i t) (form_row t i)
+  pub about : found (take i (unpack form_entry n t)) (get_or (unpack form_entry n t) i no_row) ≡ found (unpack form_entry i t) (form_row t i)
   about =
       ap (λ l. found l (get_or (unpack form_entry n t) i no_row)) (unpack_before form_entry n t i p.most) ∙
       ap (found (unpack form_entry i t)) (unpack_at form_entry n t i no_row h ∙ form_row_lem t i)
 
-  told : earlier_at (place_in t slots (form_row t i)) ≡ earlier_of (found (unpack form_entry i t) (form_row t i))
+  pub told : earlier_at (place_in t slots (form_row t i)) ≡ earlier_of (found (unpack form_entry i t) (form_row t i))
   told = earlier_number (place_in t slots (form_row t i)) ∙ ap earlier_of (numbered_found t i slots p.keeps (form_row t i))
-
-  pub passed_more : earlier_at (place_in t slots (form_row t i)) ≡ Nothing → Passed t n (i + 1) (kept_at (place_in t slots (form_row t i)) i slots)
-  unfolding earlier_of
-  passed_more e = go (found (unpack form_entry i t) (form_row t i)) refl
-    where
-      go : (o : Option ℕ) → found (unpack form_entry i t) (form_row t i) ≡ o →
-          Passed t n (i + 1) (kept_at (place_in t slots (form_row t i)) i slots)
-      go none f =
-          rw (add-one i)
-          record {
-            most = h;
-            keeps = numbered_more t i slots p.keeps (form_row t i) t (omega arith) (form_rows t i) f;
-            fresh = repeat_more (unpack form_entry n t) i p.fresh (about ∙ f);
-          }
-      go (some j) f = never (let z : Nothing ≡ At j = sym e ∙ told ∙ ap earlier_of f in cc)
 
   pub passed_stops : (j : ℕ) → earlier_at (place_in t slots (form_row t i)) ≡ At j → At i ≡ earlier_of (first_repeat (unpack form_entry n t))
   unfolding earlier_of first_repeat

@@ -12,8 +12,8 @@ use Rattle.scope.specs.File.Reader.{Outcome}
 use Rattle.scope.specs.Call.Tables.{Lent, request_of, lent_of, padded}
 use Rattle.scope.specs.Call.Checked.{checked}
 use Rattle.scope.specs.Call.Calls.{written_if, writing, text_in, output_after, reading, request_in, form_table_after, policy_table_after, step_table_after, lent_after}
-use Rattle.trip.specs.Statements.{trip_write, trip_read}
-use Rattle.demands.specs.Ranges.{reading_firm}
+use Rattle.trip.proofs.Statements.{trip_write, trip_read}
+use Rattle.demands.proofs.Ranges.{reading_firm}
 use Rattle.common.specs.declared.Counts.{Counts}
 use Rattle.checks.specs.Met.{lent_with}
 use Rattle.reader.specs.Answers.{counts_of}

@@ -17,7 +17,8 @@ use Rattle.common.specs.declared.Answer.{Answer as Returned}
 use Rattle.refusals.specs.Rows.{row}
 use Rattle.numbering.specs.Slots.{most_slots, place_in, kept_at}
 use Rattle.numbering.specs.Numbered.{Numbered, numbered_none}
-use Rattle.numbering.specs.Refused.{repeat_told, fresh_kept, neither_refused}
+use Rattle.numbering.specs.Refused.{repeat_told, neither_refused}
+use Rattle.numbering.proofs.Refused.{fresh_kept}
 use Rattle.reader.specs.Answers.{refused_at, row_line_of, section_of}
 use Rattle.reader.specs.Lines.{no_form, out_row, val_row, row_ok, row_bad, row_behind}
 use Rattle.reader.specs.NewRows.{asked_row, shaped_same, let_through}

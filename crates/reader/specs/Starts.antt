@@ -16,7 +16,7 @@ use Rattle.scope.specs.Tools.Tests.{never}
 use Rattle.common.specs.Answers.{answer_of, answer_is, answer_back}
 use Rattle.common.specs.declared.Answer.{Answer as Returned}
 use Rattle.trip.specs.LinePlaces.{lfs, lfs_within}
-use Rattle.trip.specs.Places.{body_from}
+use Rattle.trip.proofs.Places.{body_from}
 use Rattle.reader.specs.Sections.{Told, start_part}
 use Rattle.reader.specs.Answers.{start_of, reading_of, told_with, place_of}
 use Rattle.reader.specs.Many.{tail_length}

@@ -3,6 +3,5 @@ pub mod Limits
 pub mod Logic
 pub mod File
 pub mod Call
-pub mod Closing
 pub mod Tools
 pub mod Worked

@@ -1,8 +1,6 @@
--- Document 01's cases P2, P5 and P7 are refused for good: their policies do not entail their goals, so no steps at all are a derivation.
--- Each model is computed to meet Definition 1's conditions and to refute; those of P2 and P7 meet unit's too. P5 and P7 leave the count of principals open: any allowed one.
--- `for_good` says it of the cases' own texts.
-use Rattle.std.specs.Prelude.{ℕ, ◌-◌, ◌<◌, ◌≤◌, ◌≡◌, refl, Bool, true, false, List, [], ◌∷◌, eqb, get_or}
-use native.Mathlib.Omega.{arith}
+-- Document 01's cases P2, P5 and P7: their policies and goals, a model that refutes each, and what it says of a case that it is refused for good.
+-- Each model is computed to meet Definition 1's conditions and to refute; those of P2 and P7 meet unit's too. Each text is computed to read to its policy and goal.
+use Rattle.std.specs.Prelude.{ℕ, ◌-◌, ◌≡◌, refl, Bool, true, false, List, [], ◌∷◌, eqb, get_or}
 use Rattle.scope.specs.Call.Result.{result}
 use Rattle.scope.specs.Logic.Form.{Form, atom, imp, says, sf, both, either, negate}
 use Rattle.scope.specs.Logic.Facts.{Logic, plain, unit}
@@ -16,10 +14,9 @@ use Rattle.scope.specs.Limits.{most_principals}
 use Rattle.scope.specs.Logic.Obligation.{Obligation, Step, start}
 use Rattle.scope.specs.Logic.Derivation.{Derivation}
 use Rattle.scope.specs.Logic.Models.{Model}
-use Rattle.sound.specs.Over.{Over}
 use Rattle.sound.specs.Tests.{implies, every, alltrue}
 use Rattle.sound.specs.Computed.{frame, lawful, eval, eval_all}
-use Rattle.sound.specs.Refuted.{refutes, underived}
+use Rattle.sound.specs.Refuted.{refutes}
 
 -- P2: P1 with `form=sf 0 1`. The policy is (0 says p0) imp p0, 0 sf 1 and 1 says p0, the goal p0.
 abbrev pub policy2 : List Form
@@ -66,49 +63,19 @@ model7 =
       speaks = λ a b x. eqb a b;
     }
 
-computed2 : (l : Logic) → refutes l 2 1 model2 0 policy2 (atom 0) ≡ true
+pub computed2 : (l : Logic) → refutes l 2 1 model2 0 policy2 (atom 0) ≡ true
 unfolding refutes frame lawful eval eval_all alltrue implies every both either negate model2
 computed2 plain = refl
 computed2 unit = refl
 
-computed5 : refutes plain most_principals 1 model5 0 policy5 (says 0 (atom 0)) ≡ true
+pub computed5 : refutes plain most_principals 1 model5 0 policy5 (says 0 (atom 0)) ≡ true
 unfolding refutes frame lawful eval eval_all alltrue implies every both negate model5
 computed5 = refl
 
-computed7 : (l : Logic) → refutes l most_principals 1 model7 0 policy7 (says 0 (atom 0)) ≡ true
+pub computed7 : (l : Logic) → refutes l most_principals 1 model7 0 policy7 (says 0 (atom 0)) ≡ true
 unfolding refutes frame lawful eval eval_all alltrue implies every both negate model7
 computed7 plain = refl
 computed7 unit = refl
-
-module _ (room : ℕ → List Obligation → Bool) (xs : List Step) where
-  pub underived2 : (l : Logic) → Derivation room (start l 2 policy2 (atom 0)) xs → ⊥
-  unfolding Over
-  underived2 l =
-      underived room l 2 1 policy2 (atom 0) xs
-      (((omega arith, omega arith), omega arith), ((omega arith, omega arith), ((omega arith, omega arith), tt)))
-      (omega arith)
-      2
-      (omega arith)
-      model2
-      0
-      (computed2 l)
-
-  pub underived5 : (k : ℕ) → 0 < k → k ≤ most_principals → Derivation room (start plain k policy5 (says 0 (atom 0))) xs → ⊥
-  unfolding Over
-  underived5 k i up =
-      underived room plain k 1 policy5 (says 0 (atom 0)) xs (omega arith, tt) (i, omega arith) most_principals up model5 0 computed5
-
-  pub underived7 : (l : Logic) (k : ℕ) → 1 < k → k ≤ most_principals → Derivation room (start l k policy7 (says 0 (atom 0))) xs → ⊥
-  unfolding Over
-  underived7 l k i up =
-      underived room l k 1 policy7 (says 0 (atom 0)) xs
-      ((i, (omega arith, omega arith)), tt)
-      (omega arith, omega arith)
-      most_principals
-      up
-      model7
-      0
-      (computed7 l)
 
 -- A text reads to a request, and no steps derive that request's goal, whatever the limits.
 pub record ForGood (c : Case) : Type 0 where
@@ -120,38 +87,22 @@ pub record ForGood (c : Case) : Type 0 where
 abbrev pub case_of : ℕ → Case
 case_of i = get_or twelve (i - 1) (case "" (prints 0 0 0 0))
 
-request_in_case : ℕ → Request
+pub request_in_case : ℕ → Request
 request_in_case i = request_in (read_request (bytes (case_of i).text))
 
 -- What each text says: it reads, and its policy and goal are those above.
-record ReadsTo (i k : ℕ) (policy : List Form) (goal : Form) : Type 0 where
-  reads : read_request (bytes (case_of i).text) ≡ result (request_in_case i)
-  says_so : start_of (request_in_case i) ≡ start plain k policy goal
+pub record ReadsTo (i k : ℕ) (policy : List Form) (goal : Form) : Type 0 where
+  pub reads : read_request (bytes (case_of i).text) ≡ result (request_in_case i)
+  pub says_so : start_of (request_in_case i) ≡ start plain k policy goal
 
-text2 : ReadsTo 2 2 policy2 (atom 0)
+pub text2 : ReadsTo 2 2 policy2 (atom 0)
 unfolding read_request twelve request_in request_in_case start_of start
 text2 = record { reads = refl; says_so = refl }
 
-text5 : ReadsTo 5 1 policy5 (says 0 (atom 0))
+pub text5 : ReadsTo 5 1 policy5 (says 0 (atom 0))
 unfolding read_request twelve request_in request_in_case start_of start
 text5 = record { reads = refl; says_so = refl }
 
-text7 : ReadsTo 7 2 policy7 (says 0 (atom 0))
+pub text7 : ReadsTo 7 2 policy7 (says 0 (atom 0))
 unfolding read_request twelve request_in request_in_case start_of start
 text7 = record { reads = refl; says_so = refl }
-
-good : (i k : ℕ) (policy : List Form) (goal : Form) → ReadsTo i k policy goal →
-    ((room : ℕ → List Obligation → Bool) (xs : List Step) → Derivation room (start plain k policy goal) xs → ⊥) → ForGood (case_of i)
-good i k policy goal t h =
-    record {
-      request = request_in_case i;
-      reads = t.reads;
-      not_derived = λ room xs d. h room xs (rw t.says_so at d);
-    }
-
-pub for_good : ForGood (case_of 2) × ForGood (case_of 5) × ForGood (case_of 7)
-for_good = (
-  good 2 2 policy2 (atom 0) text2 (λ room xs. underived2 room xs plain),
-  good 5 1 policy5 (says 0 (atom 0)) text5 (λ room xs. underived5 room xs 1 (omega arith) (omega arith)),
-  good 7 2 policy7 (says 0 (atom 0)) text7 (λ room xs. underived7 room xs plain 2 (omega arith) (omega arith)),
-)

@@ -1,7 +1,5 @@
 pub mod Over
 pub mod Meaning
-pub mod Steps
-pub mod Sound
 pub mod Tests
 pub mod Computed
 pub mod Refuted
@@ -9,4 +7,3 @@ pub mod Cases
 pub mod Unasked
 pub mod Witnesses
 pub mod Rows
-pub mod Statements

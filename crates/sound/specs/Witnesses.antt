@@ -1,19 +1,17 @@
 -- The models are not too few. A condition that Definition 1 of document 000 does not have would, if it were slipped into `ModelOf`, weaken
 -- document 01's third demand unseen. Against each such condition a witness stands here: a model of plain or of unit that breaks the condition and
--- refutes a goal; so that policy does not entail that goal, and no steps at all are a derivation of it (`all_stand`).
+-- refutes a goal. What a witness shows is `Stands`; each is computed to pass its `tests`.
 use Rattle.std.specs.Prelude.{ℕ, ◌≡◌, refl, Bool, true, false, List, [], ◌∷◌, map, eqb}
-use Rattle.std.proofs.Common.{arith}
 use Rattle.scope.specs.Logic.Form.{Form, atom, bot, or, imp, says, sf, both, either, negate}
 use Rattle.scope.specs.Logic.Facts.{Logic, plain, unit}
 use Rattle.scope.specs.File.Kinds.{same}
 use Rattle.scope.specs.Logic.Obligation.{Obligation, Step, start}
 use Rattle.scope.specs.Logic.Derivation.{Derivation}
 use Rattle.scope.specs.Logic.Models.{Model, ModelOf, Entailed}
-use Rattle.scope.specs.Tools.Tests.{both_true}
 use Rattle.sound.specs.Over.{All}
-use Rattle.sound.specs.Tests.{implies, every, alltrue, each_true}
+use Rattle.sound.specs.Tests.{implies, every, alltrue}
 use Rattle.sound.specs.Computed.{worlds, pairs, triples, frame, lawful, eval, eval_all}
-use Rattle.sound.specs.Refuted.{refutes, refuting, unentailed, underived, over, over_ok, over_all, over_all_ok, negate_true}
+use Rattle.sound.specs.Refuted.{refutes, over, over_all}
 use Rattle.sound.specs.Unasked.{Condition, le_symmetric, le_identity, le_antisymmetric, le_total, le_rooted, acc_reflexive, acc_irreflexive, acc_symmetric, acc_within_le, le_within_acc, acc_carried_right, acc_alike, acc_serial, acc_single, acc_dense, sf_by_within, sf_turned, sf_symmetric, sf_everywhere, h_everywhere, h_along_acc}
 use Rattle.sound.specs.Cases.{policy2, model2, policy5, model5, policy7, model7}
 
@@ -228,11 +226,11 @@ pub record Stands (w : Witness) : Type 0 where
   pub not_derived : (room : ℕ → List Obligation → Bool) (xs : List Step) →
       Derivation room (start w.logic w.principals w.policy w.goal) xs → ⊥
 
-unfoldable breaks_all : ℕ → ℕ → Model → List Condition → Bool
+unfoldable pub breaks_all : ℕ → ℕ → Model → List Condition → Bool
 breaks_all k n m [] = true
 breaks_all k n m (c ∷ cs) = both (negate (c k n m)) (breaks_all k n m cs)
 
-unfoldable tests : Witness → List Bool
+unfoldable pub tests : Witness → List Bool
 tests w =
     refutes w.logic w.principals w.atoms w.model 0 w.policy w.goal ∷
     breaks_all w.principals w.atoms w.model w.breaks ∷
@@ -240,45 +238,6 @@ tests w =
     over w.principals w.atoms w.goal ∷
     []
 
-breaks_all_lem : (k n : ℕ) (m : Model) (cs : List Condition) → breaks_all k n m cs ≡ true → All (λ (c : Condition). c k n m ≡ false) cs
-unfolding breaks_all
-breaks_all_lem k n m [] e = tt
-breaks_all_lem k n m (c ∷ cs) e =
-    let h = both_true (negate (c k n m)) (breaks_all k n m cs) e in
-    (negate_true (c k n m) h.0, breaks_all_lem k n m cs h.1)
-
-stands : (w : Witness) → alltrue (tests w) ≡ true → Stands w
-unfolding tests
-stands w e =
-    let k = w.principals in
-    let n = w.atoms in
-    let h = each_true (tests w) e in
-    record {
-      meets = (refuting w.logic k n w.model 0 w.policy w.goal h.0).meets;
-      broken = breaks_all_lem k n w.model w.breaks h.1.0;
-      not_entailed = unentailed w.logic k n w.model 0 w.policy w.goal h.0;
-      not_derived =
-          λ room xs.
-          underived room w.logic k n w.policy w.goal xs
-          (over_all_ok k n w.policy h.1.1.0)
-          (over_ok k n w.goal h.1.1.1.0)
-          k
-          (omega arith)
-          w.model
-          0
-          h.0;
-    }
-
-stand_each : (ws : List Witness) → alltrue (map (λ (w : Witness). alltrue (tests w)) ws) ≡ true → All Stands ws
-unfolding alltrue
-stand_each [] e = tt
-stand_each (w ∷ ws) e =
-    let h = both_true (alltrue (tests w)) (alltrue (map (λ (w : Witness). alltrue (tests w)) ws)) e in
-    (stands w h.0, stand_each ws h.1)
-
-computed : alltrue (map (λ (w : Witness). alltrue (tests w)) witnesses) ≡ true
+pub computed : alltrue (map (λ (w : Witness). alltrue (tests w)) witnesses) ≡ true
 unfolding witnesses tests breaks_all refutes frame lawful eval eval_all over over_all alltrue implies every worlds pairs triples both either negate same listed model2 model5 model7 le_symmetric le_identity le_antisymmetric le_total le_rooted acc_reflexive acc_irreflexive acc_symmetric acc_within_le le_within_acc acc_carried_right acc_alike acc_serial acc_single acc_dense sf_by_within sf_turned sf_symmetric sf_everywhere h_everywhere h_along_acc
 computed = refl
-
-pub all_stand : All Stands witnesses
-all_stand = stand_each witnesses computed

@@ -7,7 +7,6 @@ pub mod Small
 pub mod Reads
 pub mod Several
 pub mod File
-pub mod Requests
 pub mod Checks
 pub mod Packing
 pub mod Fits
@@ -18,4 +17,3 @@ pub mod LineRefusals
 pub mod LineStops
 pub mod LinePlaces
 pub mod Places
-pub mod Statements

@@ -3,5 +3,3 @@ pub mod Twins
 pub mod Steps
 pub mod Walks
 pub mod Starts
-pub mod Statements
-pub mod Examples

@@ -1,5 +1,4 @@
--- Requests that are alike begin with twins:
---     starts-alike : Alike q r → Twins (λ i. Used i (steps_of q)) (start_of q ∷ []) (start_of r ∷ [])
+-- What requests that are alike begin with, part by part: that they begin with twins is proofs/Starts.
 use Rattle.std.specs.Prelude.{ℕ, zero, suc, ◌<◌, ◌≡◌, refl, false, List, [], ◌∷◌, map, length, get_or}
 use Rattle.std.proofs.Common.{sym, ap, ◌∙◌, arith}
 use Rattle.std.proofs.Math.Option.{some}
@@ -11,8 +10,8 @@ use Rattle.scope.specs.Logic.Form.{Form, top, is_sf}
 use Rattle.scope.specs.Logic.Facts.{Fact, Logic}
 use Rattle.scope.specs.File.Request.{Request, formula}
 use Rattle.scope.specs.Logic.Obligation.{Lab, lab, fact_of, root_facts, start}
-use Rattle.scope.specs.Call.Judge.{policy_of, goal_of, steps_of, start_of}
-use Rattle.unused.specs.Alike.{Used, policy_line, LineAlike, same, unused, Alike}
+use Rattle.scope.specs.Call.Judge.{policy_of, steps_of}
+use Rattle.unused.specs.Alike.{Used, policy_line, LineAlike, same, unused}
 use Rattle.unused.specs.Twins.{Shared, Twins, none, twin}
 
 -- A formula that is no `sf` gives no fact.
@@ -28,18 +27,16 @@ no_fact (F.says a f) ks e = refl
 no_fact (F.sf a b) ks e = never cc
 
 -- Lines that are alike give the same facts, and the same clause where one is used.
-
-line_fact : (q r : Request) (i : ℕ) → LineAlike q r i → (ks : List Fact) → fact_of (policy_line q i) ks ≡ fact_of (policy_line r i) ks
+pub line_fact : (q r : Request) (i : ℕ) → LineAlike q r i → (ks : List Fact) → fact_of (policy_line q i) ks ≡ fact_of (policy_line r i) ks
 line_fact q r i (same e) ks = rw e
 line_fact q r i (unused m n u) ks = no_fact (policy_line q i) ks m ∙ sym (no_fact (policy_line r i) ks n)
 
-line_used : {q r : Request} {i : ℕ} → LineAlike q r i → Used i (steps_of q) → policy_line q i ≡ policy_line r i
+pub line_used : {q r : Request} {i : ℕ} → LineAlike q r i → Used i (steps_of q) → policy_line q i ≡ policy_line r i
 line_used (same e) v = e
 line_used (unused m n u) v = absurd (u v)
 
 -- The same over two lists of lines.
-
-facts_same : (fs gs : List Form) → length fs ≡ length gs →
+pub facts_same : (fs gs : List Form) → length fs ≡ length gs →
     ((i : ℕ) → i < length fs → (ks : List Fact) → fact_of (get_or fs i top) ks ≡ fact_of (get_or gs i top) ks) →
     root_facts fs ≡ root_facts gs
 unfolding root_facts
@@ -49,10 +46,10 @@ facts_same (f ∷ fs) [] e h = absurd (omega arith)
 facts_same (f ∷ fs) (g ∷ gs) e h =
     h 0 (omega arith) (root_facts fs) ∙ ap (fact_of g) (facts_same fs gs (omega arith) (λ i b. h (suc i) (omega arith)))
 
-abbrev at_root : List Form → List Lab
+abbrev pub at_root : List Form → List Lab
 at_root fs = map (λ (f : Form). lab f 0) fs
 
-clause_same : (fs gs : List Form) (i : ℕ) → length fs ≡ length gs → (i < length fs → get_or fs i top ≡ get_or gs i top) →
+pub clause_same : (fs gs : List Form) (i : ℕ) → length fs ≡ length gs → (i < length fs → get_or fs i top ≡ get_or gs i top) →
     get_elem? (at_root fs) i ≡ get_elem? (at_root gs) i
 clause_same [] [] i e h = refl
 clause_same [] (g ∷ gs) i e h = absurd (omega arith)
@@ -60,33 +57,11 @@ clause_same (f ∷ fs) [] i e h = absurd (omega arith)
 clause_same (f ∷ fs) (g ∷ gs) zero e h = ap (λ (k : Form). some (lab k 0)) (h (omega arith))
 clause_same (f ∷ fs) (g ∷ gs) (suc i) e h = clause_same fs gs i (omega arith) (λ b. h (omega arith))
 
-start_twins : (used : ℕ → Type 0) (l : Logic) (k : ℕ) (fs gs : List Form) (g : Form) → root_facts fs ≡ root_facts gs →
+pub start_twins : (used : ℕ → Type 0) (l : Logic) (k : ℕ) (fs gs : List Form) (g : Form) → root_facts fs ≡ root_facts gs →
     Shared used (at_root fs) (at_root gs) → Twins used (start l k fs g ∷ []) (start l k gs g ∷ [])
 unfolding start
 start_twins used l k fs gs g e a = rw (← e) (twin a none)
 
-policy_count : (q : Request) → length (policy_of q) ≡ length q.policy
+pub policy_count : (q : Request) → length (policy_of q) ≡ length q.policy
 unfolding policy_of
 policy_count q = length-map q.policy (formula q.forms)
-
-pub starts_alike : (q r : Request) → Alike q r → Twins (λ i. Used i (steps_of q)) (start_of q ∷ []) (start_of r ∷ [])
-unfolding start_of policy_line
-starts_alike q r a =
-    rw (← a.logic, ← a.principals, ← a.goal)
-    (start_twins (λ i. Used i (steps_of q)) q.logic q.principals (policy_of q) (policy_of r) (goal_of q) facts clauses)
-  where
-    long : length (policy_of q) ≡ length (policy_of r)
-    long = policy_count q ∙ a.count ∙ sym (policy_count r)
-
-    each : (i : ℕ) → i < length (policy_of q) → LineAlike q r i
-    each i b = a.policy i (rw (policy_count q) at b)
-
-    facts : root_facts (policy_of q) ≡ root_facts (policy_of r)
-    facts = facts_same (policy_of q) (policy_of r) long (λ i b. line_fact q r i (each i b))
-
-    clauses : Shared (λ i. Used i (steps_of q)) (at_root (policy_of q)) (at_root (policy_of r))
-    clauses =
-        record {
-          count = length-map (policy_of q) (λ f. lab f 0) ∙ long ∙ sym (length-map (policy_of r) (λ f. lab f 0));
-          at = λ i u. clause_same (policy_of q) (policy_of r) i long (λ b. line_used (each i b) u);
-        }

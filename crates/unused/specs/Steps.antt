@@ -1,5 +1,5 @@
 -- One step on twins is refused alike, or leads to twins, if it is no `use` of a clause that they do not share:
---     step-alike : Moves used (step_on x s p) (step_on x (with_clauses s ds) p)
+--     step_alike : Moves used (step_on x s p) (step_on x (with_clauses s ds) p)
 -- Each handler of the walk has one law; the eighteen steps are then a line each.
 use Rattle.std.specs.Prelude.{ℕ, ◌≡◌, Bool, List, [], ◌∷◌, eqb, ltb}
 use Rattle.std.proofs.Math.Bool.{true, false}

@@ -1,5 +1,5 @@
 -- The relation that a walk keeps: obligations that differ only in clauses that no step uses.
---     within-blind : the limits count clauses and see nothing else of them
+--     within_blind : the limits count clauses and see nothing else of them
 use Rattle.std.specs.Prelude.{ℕ, zero, suc, ◌≡◌, Bool, List, [], ◌∷◌, ◌++◌, map, length}
 use Rattle.std.proofs.Math.Path.{refl}
 use Rattle.std.proofs.Common.{ap, length-append, arith}

@@ -1,5 +1,5 @@
 -- Twins are walked to the same answer:
---     walk-alike : walk room i os xs ≡ walk room i os' xs
+--     walk_alike : walk room i os xs ≡ walk room i os' xs
 use Rattle.std.specs.Prelude.{ℕ, suc, ◌≡◌, Bool, length}
 use Rattle.std.proofs.Math.Path.{refl}
 use mathlib.Core.List.{List, [], ◌∷◌, ◌++◌}

@@ -11,7 +11,7 @@ use Rattle.scope.specs.Call.Checked.{checked}
 use Rattle.scope.specs.Call.Judge.{start_of}
 use Rattle.scope.specs.Logic.Walk.{Onward, onto, step_on, has}
 use Rattle.scope.specs.Tools.Tests.{never}
-use Rattle.trip.specs.Trip.{checked_fine}
+use Rattle.trip.proofs.Trip.{checked_fine}
 use Rattle.facts.specs.Rows.{told}
 use Rattle.facts.specs.Kept.{Aimed}
 use Rattle.moves.specs.declared.Move.{Move}

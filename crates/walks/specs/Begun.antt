@@ -14,7 +14,7 @@ use Rattle.scope.specs.Limits.{most_principals, most_clauses, most_chunks}
 use Rattle.scope.specs.Logic.Obligation.{Lab, lab, fact_of, root_facts, start}
 use Rattle.facts.specs.Rows.{root_rows, noted}
 use Rattle.facts.specs.Kept.{Kept}
-use Rattle.facts.specs.Noted.{kept_note}
+use Rattle.facts.proofs.Noted.{kept_note}
 use Rattle.facts.specs.Root.{kept_root}
 use Rattle.moves.specs.Steps.{pick}
 use Rattle.machine.specs.Tables.{places, clause_places, block}

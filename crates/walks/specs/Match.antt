@@ -8,7 +8,7 @@ use Rattle.std.proofs.Math.Dec.{leb}
 use Rattle.scope.specs.Logic.Form.{Form, is_sf}
 use Rattle.scope.specs.Logic.Facts.{Fact}
 use Rattle.scope.specs.Logic.Held.{holds}
-use Rattle.scope.specs.Closing.Agree.{agree_sound, agree_full}
+use Rattle.scope.proofs.Closing.Agree.{agree_sound, agree_full}
 use Rattle.scope.specs.Logic.Obligation.{Lab, Obligation}
 use Rattle.scope.specs.Logic.Room.{within}
 use Rattle.scope.specs.Logic.Walk.{Onward, onto, refuse, need, has, on_atom, on_top, on_bot, on_and, on_or, on_imp, on_says, on_sf, on_imp_says, on_pushed}

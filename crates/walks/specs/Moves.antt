@@ -27,8 +27,10 @@ use Rattle.machine.specs.Change.{goal_in, change_of}
 use Rattle.machine.specs.Tables.{places, top_chunk, split_chunks, case_chunks, chunks_after, rows_after}
 use Rattle.machine.specs.Machine.{Stack, State, moved}
 use Rattle.walks.specs.Trees.{Reading, unit_of}
-use Rattle.facts.specs.Grown.{kept_le, kept_by, agree_le, agree_by}
-use Rattle.facts.specs.Noted.{kept_note, agree_note}
+use Rattle.facts.specs.Grown.{agree_le, agree_by}
+use Rattle.facts.proofs.Grown.{kept_le, kept_by}
+use Rattle.facts.specs.Noted.{agree_note}
+use Rattle.facts.proofs.Noted.{kept_note}
 use Rattle.machine.specs.Turn.{state_of}
 use Rattle.walks.specs.Related.{StackEntry, down_from, chunks_of, Below, Rests, at_goal_lem, at_chunks, Stands, at_rest, in_focus_lem}
 use Rattle.walks.specs.Related.{Clauses, sheet_of, seq, Waits, met_in, Standing, Related}

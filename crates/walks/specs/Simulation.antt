@@ -10,7 +10,7 @@ use Rattle.scope.specs.Call.Tables.{Lent, policy_entry, unpack, request_of}
 use Rattle.scope.specs.Tools.Unpack.{unpack_length}
 use Rattle.scope.specs.Call.Checked.{checked}
 use Rattle.scope.specs.Call.Judge.{steps_of, start_of, steps_answer}
-use Rattle.trip.specs.Trip.{checked_fine}
+use Rattle.trip.proofs.Trip.{checked_fine}
 use Rattle.machine.specs.Machine.{begun, ran, walked_answer}
 use Rattle.walks.specs.Unpacked.{line_at, steps_are}
 use Rattle.walks.specs.Passed.{Passed, unrefused_passed}

@@ -2,7 +2,8 @@ use native.Mathlib.Omega.{arith}
 use mathlib.Core.Path.{sym, ap, ◌∙◌}
 use Rattle.scope.specs.Call.Tables.{unpack, form_entry}
 use Rattle.numbering.specs.Slots.{earlier_of}
-use Rattle.numbering.specs.Repeats.{first_repeat, passed_none, passed_more, passed_stops, passed_all}
+use Rattle.numbering.specs.Repeats.{first_repeat, passed_none, passed_stops, passed_all}
+use Rattle.numbering.proofs.Repeats.{passed_more}
 use Rattle.numbering.proofs.first_repeat.Goals as goal
 
 pub loop-i-init : goal.loop-i-init

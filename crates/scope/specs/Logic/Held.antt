@@ -1,4 +1,4 @@
--- The closed facts, computed from the list of given ones: `holds` answers what `Closed` defines (specs/Closing/Agree proves that it does, for every list).
+-- The closed facts, computed from the list of given ones: `holds` answers what `Closed` defines (proofs/Closing/Agree proves that it does, for every list).
 use Rattle.std.specs.Prelude.{ℕ, ◌≡◌, refl, Bool, true, false, List, [], ◌∷◌, eqb, ltb}
 use Rattle.scope.specs.Logic.Form.{both, either}
 use Rattle.scope.specs.Logic.Facts.{Fact, le, by, sf, Logic, plain, unit, Sheet}

@@ -12,7 +12,7 @@ use Rattle.scope.specs.Logic.Derivation.{Derives, DerivesAll, step, none, first,
 use Rattle.scope.specs.Logic.Obligation.{Obligation, Step}
 use Rattle.scope.specs.Logic.Walk.{walk}
 use Rattle.granted.specs.Reasons.{Room}
-use Rattle.granted.specs.Walks.{Turn, on, over, stop, turn, walk_on}
+use Rattle.granted.proofs.Walks.{Turn, on, over, stop, turn, walk_on}
 
 -- Derivations of obligations and of those waiting behind them come apart where the first ones end.
 part : (room : Room) (n : ℕ) (new waiting : List Obligation) (xs rest : List Step) →

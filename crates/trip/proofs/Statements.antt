@@ -13,11 +13,13 @@ use Rattle.scope.specs.Call.Tables.{Lent, request_of}
 use Rattle.scope.specs.Call.Checked.{first_met, line_answers, checked}
 use Rattle.scope.specs.Call.Calls.{reading, lent_after, writing}
 use Rattle.trip.specs.File.{Unrefused}
-use Rattle.trip.specs.Requests.{text_reads, read_unrefused, read_text, same_request}
+use Rattle.trip.proofs.Requests.{text_reads, read_unrefused, read_text, same_request}
 use Rattle.trip.specs.Fits.{text_fits}
-use Rattle.trip.specs.Trip.{Fine, checked_fine, fine_checked, write_again, read_for, left_for, write_then_read, read_then_write}
+use Rattle.trip.specs.Trip.{Fine, read_for, left_for}
+use Rattle.trip.proofs.Trip.{checked_fine, fine_checked, write_again, write_then_read, read_then_write}
 use Rattle.trip.specs.LinePlaces.{lfs, whole}
-use Rattle.trip.specs.Places.{Where, refused_where, read_lines}
+use Rattle.trip.specs.Places.{Where}
+use Rattle.trip.proofs.Places.{refused_where, read_lines}
 use Rattle.trip.specs.Refused.{Sayable, lines_refused, text_checked, checked_text, text_unwritten, unwritten_text}
 
 -- A request without refusal (`Unrefused`: each line's own refusal is 0) reads back from its text.

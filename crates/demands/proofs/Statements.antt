@@ -10,12 +10,15 @@ use Rattle.scope.specs.Call.Judge.{policy_of, goal_of, judge, Printed, prints, g
 use Rattle.scope.specs.File.Request.{Request}
 use Rattle.scope.specs.Logic.Models.{Entailed}
 use Rattle.demands.specs.Judged as Judged
+use Rattle.demands.proofs.Judged as JudgedProved
 use Rattle.demands.specs.Judged.{Answers, Grants}
 use Rattle.demands.specs.Gate as Gate
+use Rattle.demands.proofs.Gate as GateProved
 use Rattle.demands.specs.Gate.{Prints, Granting}
 use Rattle.demands.specs.Ranges as Ranges
+use Rattle.demands.proofs.Ranges as RangesProved
 use Rattle.demands.specs.Ranges.{Between, ByReading, ByChecks, ByWriting}
-use Rattle.demands.specs.AnswerRanges as AnswerRanges
+use Rattle.demands.proofs.AnswerRanges as AnswerRanges
 use Rattle.demands.specs.AnswerRanges.{ByJudging, ByGate}
 
 -- The judge answers, for every lent tables and counts, what is allowed, and nothing else is allowed (Judged).
@@ -26,11 +29,11 @@ pub allowed_judge : (t : Lent) (a : Answer) → Answers t a → judge t ≡ a
 allowed_judge = Judged.allowed_judge
 
 pub judge_grants : (t : Lent) → judge t ≡ answer 0 0 ↔ Grants t
-judge_grants = Judged.judge_grants
+judge_grants = JudgedProved.judge_grants
 
 pub judge_entails : (t : Lent) → judge t ≡ answer 0 0 →
     Entailed t.logic t.principals t.atoms (policy_of (request_of t)) (goal_of (request_of t))
-judge_entails = Judged.judge_entails
+judge_entails = JudgedProved.judge_entails
 
 -- So does the gate, for every file (Gate).
 pub gate_prints : (s : List ℕ) → Prints s (gate s)
@@ -43,7 +46,7 @@ pub gate_grants : (s : List ℕ) (q : Request) → Granting s q → gate s ≡ p
 gate_grants = Gate.gate_grants
 
 pub granted_gate : (s : List ℕ) (place n column : ℕ) → gate s ≡ prints 0 place n column → (q : Request) × Granting s q × (length q.steps ≡ n)
-granted_gate = Gate.granted_gate
+granted_gate = GateProved.granted_gate
 
 pub gate_entails : (s : List ℕ) (q : Request) → Granting s q → Entailed q.logic q.principals q.atoms (policy_of q) (goal_of q)
 gate_entails = Gate.gate_entails
@@ -55,7 +58,7 @@ reading_range = Ranges.reading_range
 
 pub read_number : (forms policy steps : ℕ) (s : List ℕ) (k place column : ℕ) → reading forms policy steps s ≡ refused (told k place column) →
     Between 1 6 k ⊎ (k ≡ 13)
-read_number = Ranges.read_number
+read_number = RangesProved.read_number
 
 pub checked_range : (t : Lent) (k place column : ℕ) → checked t ≡ told (suc k) place column → ByChecks (suc k) place × (column ≡ 0)
 checked_range = Ranges.checked_range

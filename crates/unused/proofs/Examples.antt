@@ -8,7 +8,7 @@ use Rattle.scope.specs.File.Request.{Row, Request}
 use Rattle.scope.specs.Logic.Form.{is_sf}
 use Rattle.scope.specs.Call.Judge.{goal_of, steps_of, steps_answer}
 use Rattle.unused.specs.Alike.{Used, later, policy_line, LineAlike, same, unused, Alike}
-use Rattle.unused.specs.Statements.{same_answer}
+use Rattle.unused.proofs.Statements.{same_answer}
 
 abbrev row : ℕ → ℕ → ℕ → Row
 row k l r = record { kind = k; left = l; right = r }

@@ -1,10 +1,10 @@
 -- The walk answers with the first break, for every room:
---     first-break : (walk room 0 os xs ≡ answer k p) × ¬ (answer k p ≡ answer 0 0) ↔ Breaks room os xs k p
+--     first_break : (walk room 0 os xs ≡ answer k p) × ¬ (answer k p ≡ answer 0 0) ↔ Breaks room os xs k p
 --     settled : walk room 0 (o ∷ []) xs ≡ a ↔ Settled room o xs a
 --     one_answer : Settled room o xs a → Settled room o xs b → a ≡ b
---     left-over : Reaches room n os xs os' left → left ≡ drop n xs
---     short-place : Breaks room os xs 12 p → p ≡ suc (length xs)
---     break-range : Breaks room os xs k p → (7 ≤ k) × (k ≤ 12) × (0 < p) × (p ≤ suc (length xs))
+--     left_over : Reaches room n os xs os' left → left ≡ drop n xs
+--     short_place : Breaks room os xs 12 p → p ≡ suc (length xs)
+--     break_range : Breaks room os xs k p → (7 ≤ k) × (k ≤ 12) × (0 < p) × (p ≤ suc (length xs))
 use Rattle.std.specs.Prelude.{ℕ, suc, ◌+◌, ◌≤◌, ◌<◌, ◌≡◌, ◌↔◌, length, drop}
 use Rattle.std.proofs.Math.Path.{refl, ap}
 use Rattle.std.proofs.Common.{sym, ◌∙◌, arith}
@@ -16,9 +16,9 @@ use Rattle.scope.specs.Logic.Obligation.{Obligation, Step}
 use Rattle.scope.specs.Logic.Walk.{walk}
 use Rattle.granted.specs.Reasons.{Room, Reaches, here, onward, Breaks, too_long, refused, too_much, too_short, Settled}
 use Rattle.granted.specs.Reasons.{grants, breaks}
-use Rattle.granted.specs.Refusals.{in_range_lem}
-use Rattle.granted.specs.Walks.{Turn, on, over, stop, turn, walk_on, walk_over, walk_stop}
-use Rattle.granted.specs.Granted.{granted, never_granted}
+use Rattle.granted.proofs.Refusals.{in_range_lem}
+use Rattle.granted.proofs.Walks.{Turn, on, over, stop, turn, walk_on, walk_over, walk_stop}
+use Rattle.granted.proofs.Granted.{granted, never_granted}
 
 -- A break after one more step done is one place later.
 pub later : {room : Room} {o : Obligation} {new waiting : List Obligation} {x : Step} {xs : List Step} {k p : ℕ} →

@@ -7,7 +7,7 @@ use Rattle.scope.specs.Logic.Derivation.{Rule}
 use Rattle.scope.specs.Logic.Obligation.{Obligation, Step}
 use Rattle.scope.specs.Logic.Walk.{Onward, limited, after, walk}
 use Rattle.granted.specs.Reasons.{Room, Refuses}
-use Rattle.granted.specs.Steps.{rule_step, refuses_step, Told, ruled, barred, told}
+use Rattle.granted.proofs.Steps.{rule_step, refuses_step, Told, ruled, barred, told}
 
 -- The turn goes on by a rule within the room, passes a limit, or is refused.
 pub data Turn (room : Room) (i : ℕ) (o : Obligation) (waiting : List Obligation) (x : Step) (xs : List Step) (a : Answer) : Type 0 where

@@ -6,10 +6,10 @@ use Rattle.scope.specs.Logic.Obligation.{Obligation, Step, start}
 use Rattle.scope.specs.Logic.Derivation.{Derivation}
 use Rattle.scope.specs.Logic.Models.{Model, ModelOf, Sat, SatAll, Entailed}
 use Rattle.sound.specs.Over.{Over, All}
-use Rattle.sound.specs.Sound as Sound
-use Rattle.sound.specs.Cases as Cases
+use Rattle.sound.proofs.Sound as Sound
+use Rattle.sound.proofs.Cases as Cases
 use Rattle.sound.specs.Cases.{case_of, ForGood}
-use Rattle.sound.specs.Witnesses as Witnesses
+use Rattle.sound.proofs.Witnesses as Witnesses
 use Rattle.sound.specs.Witnesses.{Stands, witnesses}
 
 -- What has a derivation, whatever the limits, holds in every finite model of its logic; and where a model refutes, no steps are a derivation (Sound).

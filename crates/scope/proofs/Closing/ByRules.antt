@@ -4,9 +4,9 @@ use Rattle.std.specs.Prelude.{ℕ, ◌<◌, List}
 use Rattle.scope.specs.Logic.Facts as F
 use Rattle.scope.specs.Logic.Facts.{Fact, le, by, sf, unit, Sheet, Rules, Closed, given, Among, Named}
 use Rattle.scope.specs.Logic.Held.{Edge, edge, links_of, ups_of, pairs_at}
-use Rattle.scope.specs.Closing.Paths.{On, Path, Way, stay, go, before, after, along, path_joined, way_joined, one_edge}
-use Rattle.scope.specs.Closing.Computed.{Link, link_le, link_by, links_given, le_links, by_links, Up, up_le, up_by, ups_given, le_ups, links_ups, Pair, pair, pairs_given, given_pair}
-use Rattle.scope.specs.Closing.Computed.{reach, Holds, same, up, self, speaks, sees}
+use Rattle.scope.proofs.Closing.Paths.{On, Path, Way, stay, go, before, after, along, path_joined, way_joined, one_edge}
+use Rattle.scope.proofs.Closing.Computed.{Link, link_le, link_by, links_given, le_links, by_links, Up, up_le, up_by, ups_given, le_ups, links_ups, Pair, pair, pairs_given, given_pair}
+use Rattle.scope.proofs.Closing.Computed.{reach, Holds, same, up, self, speaks, sees}
 
 module _ (sheet : Sheet) (fs : List Fact) (inside : (f : Fact) → Among fs f → Named sheet f) where
   -- The ends of what is given are worlds.

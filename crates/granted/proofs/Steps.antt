@@ -1,7 +1,7 @@
 -- One step on one obligation. The move that is computed is the rule's, and its refusals are those of document 01's table:
---     rule-step : Rule o x os ↔ step_on x o.sequent o.phase ≡ onto os
---     one-result : Rule o x os → Rule o x os' → os ≡ os'
---     refuses-step : Refuses o x k ↔ step_on x o.sequent o.phase ≡ refuse k
+--     rule_step : Rule o x os ↔ step_on x o.sequent o.phase ≡ onto os
+--     one_result : Rule o x os → Rule o x os' → os ≡ os'
+--     refuses_step : Refuses o x k ↔ step_on x o.sequent o.phase ≡ refuse k
 use Rattle.std.specs.Prelude.{ℕ, ◌≡◌, refl, Bool, true, false, List, ◌↔◌, eqb, ltb}
 use Rattle.std.proofs.Common.{◌∙◌, subst, arith, lt-ltb, eq-eqb}
 use Rattle.std.proofs.Math.Option.{Option, some}
@@ -9,7 +9,7 @@ use Rattle.std.proofs.Math.ListN.{get_elem?}
 use Rattle.scope.specs.Tools.Tests.{never}
 use Rattle.scope.specs.Logic.Form.{is_sf, is_pushed, negate}
 use Rattle.scope.specs.Logic.Facts.{Fact, le, by, sf}
-use Rattle.scope.specs.Closing.Agree.{agree_full}
+use Rattle.scope.proofs.Closing.Agree.{agree_full}
 use Rattle.scope.specs.Logic.Derivation.{Has, Rule, by_and, by_or1, by_or2, by_imp, by_says, by_top, by_sf, by_use, by_left, by_right, by_to_imp}
 use Rattle.scope.specs.Logic.Derivation.{by_to_says, by_hit, by_push, by_split, by_case, by_absurd, by_drop, by_note}
 use Rattle.scope.specs.Logic.Obligation.{Lab, Sequent, Obligation, Step}

@@ -6,8 +6,10 @@ use Rattle.std.proofs.Common.{arith}
 use Rattle.scope.specs.Logic.Facts.{Fact, le, by, sf, is_unit, Sheet, grown, Closed, Basis}
 use Rattle.facts.specs.Rows.{worlds_max, principals_max, told, sf_rows, put_sf, root_rows, grown_le, grown_by, noted}
 use Rattle.facts.specs.Kept.{Aimed, Kept, basis_among, Agree, agree_self, agree_then, agree_put, kept_back}
-use Rattle.facts.specs.Grown.{kept_le, kept_by, agree_le, agree_by}
-use Rattle.facts.specs.Noted.{kept_note, agree_note}
+use Rattle.facts.specs.Grown.{agree_le, agree_by}
+use Rattle.facts.proofs.Grown.{kept_le, kept_by}
+use Rattle.facts.specs.Noted.{agree_note}
+use Rattle.facts.proofs.Noted.{kept_note}
 use Rattle.facts.specs.Root.{kept_root}
 
 -- Rows that a branch leaves, where it began with rows r and newest world m: it made newer worlds, noted at m or a newer one, and put rows of

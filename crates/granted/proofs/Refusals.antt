@@ -10,7 +10,7 @@ use Rattle.scope.specs.Logic.Derivation.{Rule}
 use Rattle.scope.specs.Logic.Obligation.{Obligation, Step}
 use Rattle.scope.specs.Logic.Walk.{Onward, refuse, step_on}
 use Rattle.granted.specs.Reasons.{Fits, Unnamed, Named, Unbacked, Backed, Refuses, misfits, unnamed, unbacked}
-use Rattle.granted.specs.Steps.{rule_named, rule_backed, Told, ruled, barred, rule_fits, told, refuses_step}
+use Rattle.granted.proofs.Steps.{rule_named, rule_backed, Told, ruled, barred, rule_fits, told, refuses_step}
 
 is_seven : {o : Obligation} {x : Step} → Refuses o x 7 → ¬ Fits o x
 is_seven (misfits n) = n

@@ -4,8 +4,8 @@ use Rattle.std.specs.Prelude.{ℕ, ◌<◌, ◌≡◌, refl, Bool, true, false, 
 use Rattle.std.proofs.Common.{inl, inr}
 use Rattle.scope.specs.Logic.Facts.{Fact, le, by, sf, Logic, plain, unit, Sheet, Among, here, there, Named, Basis, basis}
 use Rattle.scope.specs.Logic.Held.{Edge, edge, way, les_of, links_of, ups_of, add_if, pairs_at, reaches, is_named, keep_if, named, follows}
-use Rattle.scope.specs.Closing.Paths.{Agrees, agrees_as, agrees_none, agrees_both, agrees_either, agrees_eqb, agrees_ltb}
-use Rattle.scope.specs.Closing.Paths.{Path, Way, path_agrees, way_agrees, On, first, later}
+use Rattle.scope.proofs.Closing.Paths.{Agrees, agrees_as, agrees_none, agrees_both, agrees_either, agrees_eqb, agrees_ltb}
+use Rattle.scope.proofs.Closing.Paths.{Path, Way, path_agrees, way_agrees, On, first, later}
 
 -- An edge of `les_of` is a given u ≤ v, and each of these is one; likewise below for the links and the pairs.
 pub les_given : (fs : List Fact) {u v : ℕ} → On (edge u v) (les_of fs) → Among fs (le u v)

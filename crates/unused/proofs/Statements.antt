@@ -15,7 +15,7 @@ use Rattle.scope.specs.Call.Judge.{steps_of, steps_answer, else, judge, printed_
 use Rattle.unused.specs.Alike.{Alike}
 use Rattle.unused.specs.Twins.{within_blind}
 use Rattle.unused.specs.Walks.{walk_alike}
-use Rattle.unused.specs.Starts.{starts_alike}
+use Rattle.unused.proofs.Starts.{starts_alike}
 
 -- Over requests, whether or not they would read without refusal.
 pub same_answer : (q r : Request) → Alike q r → steps_answer q ≡ steps_answer r

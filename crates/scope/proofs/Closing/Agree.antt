@@ -2,9 +2,9 @@
 use Rattle.std.specs.Prelude.{◌≡◌, true, false, List}
 use Rattle.scope.specs.Logic.Facts.{Fact, Sheet, Closed, given, Among, Named, Basis, basis, closed, least}
 use Rattle.scope.specs.Logic.Held.{named, holds}
-use Rattle.scope.specs.Closing.Paths.{untrue}
-use Rattle.scope.specs.Closing.Computed.{follows_agrees, basis_named, named_basis}
-use Rattle.scope.specs.Closing.ByRules.{by_rules, gives, obeys}
+use Rattle.scope.proofs.Closing.Paths.{untrue}
+use Rattle.scope.proofs.Closing.Computed.{follows_agrees, basis_named, named_basis}
+use Rattle.scope.proofs.Closing.ByRules.{by_rules, gives, obeys}
 
 -- What `named` keeps is about the worlds and principals that there are.
 inside : (s : Sheet) (fs : List Fact) (f : Fact) → Among (named s fs) f → Named s f

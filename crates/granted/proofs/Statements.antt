@@ -8,10 +8,10 @@ use Rattle.scope.specs.Logic.Derivation.{Rule, Derivation}
 use Rattle.scope.specs.Logic.Room.{within, free}
 use Rattle.scope.specs.Logic.Walk.{refuse, step_on, walk}
 use Rattle.granted.specs.Reasons.{Room, Fits, Unnamed, Named, Unbacked, Backed, Breaks, Settled}
-use Rattle.granted.specs.Refusals as Refusals
-use Rattle.granted.specs.Granted as Granted
-use Rattle.granted.specs.FirstBreak as FirstBreak
-use Rattle.granted.specs.LimitsOnly as LimitsOnly
+use Rattle.granted.proofs.Refusals as Refusals
+use Rattle.granted.proofs.Granted as Granted
+use Rattle.granted.proofs.FirstBreak as FirstBreak
+use Rattle.granted.proofs.LimitsOnly as LimitsOnly
 use Rattle.granted.specs.LimitsOnly.{Limited}
 use Rattle.granted.specs.Unit as Unit
 

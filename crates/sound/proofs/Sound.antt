@@ -12,7 +12,7 @@ use Rattle.scope.specs.Logic.Derivation.{Derivation}
 use Rattle.scope.specs.Logic.Models.{Model, ModelOf, Sat, SatAll, Entailed}
 use Rattle.sound.specs.Over.{Over, All}
 use Rattle.sound.specs.Meaning.{HoldsAt, AtWorlds, Meets}
-use Rattle.sound.specs.Steps.{derives_sound}
+use Rattle.sound.proofs.Steps.{derives_sound}
 
 -- At a world x where the policy holds, the root stands for x, and so does every number.
 module _ (k n : ℕ) (m : Model) (x : ℕ) where

@@ -1,0 +1,3 @@
+pub mod Statements
+pub mod Examples
+pub mod Starts
