@@ -1,5 +1,5 @@
 -- What this crate proves: the three demands over the judge's and the gate's answers, and the numbers and places that come back. Each is proved
--- in the file named beside it.
+-- in the file named beside it, of specs/ or, where it rests on a definition that a must-fail edit turns, of proofs/.
 use Rattle.std.specs.Prelude.{ℕ, suc, ◌≡◌, List, ◌↔◌, ◌⊎◌, length}
 use Rattle.scope.specs.Call.Result.{refused}
 use Rattle.scope.specs.Call.Answer.{Answer, told, answer}

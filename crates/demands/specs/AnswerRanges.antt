@@ -1,7 +1,7 @@
--- The numbers, places and columns of the judge's and of the gate's answers, as document 01's table 'What comes back' has them.
+-- The numbers, places and columns of the judge's and of the gate's answers, as document 01's table 'What comes back' has them. That the answers
+-- have them is proofs/AnswerRanges:
 --     judge_range : judge t ≡ told k place column → ByJudging t k place × (column ≡ 0)
 --     gate_range : gate s ≡ prints k place n column → ByGate s k place n column
--- So the gate prints no number over 12 but 15 (`gate_number`): never 13 or 14.
 use Rattle.std.specs.Prelude.{ℕ, suc, ◌*◌, ◌<◌, ◌≤◌, ◌≡◌, refl, true, List, length}
 use Rattle.std.proofs.Common.{arith}
 use Rattle.std.proofs.lemmas.List.{length-map}

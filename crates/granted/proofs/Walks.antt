@@ -1,6 +1,6 @@
 -- One turn of the walk, by the relations: what the arguments about whole walks cite, so that none opens a turn again.
 --     turn : Turn room i o waiting x xs (walk room i (o ∷ waiting) (x ∷ xs))
---     walk-on, walk-over, walk-stop : the same from each relation to the walk
+--     walk_on, walk_over, walk_stop : the same from each relation to the walk
 use Rattle.std.specs.Prelude.{ℕ, suc, ◌≡◌, refl, Bool, true, false, List, ◌∷◌, ◌++◌, length}
 use Rattle.scope.specs.Call.Answer.{Answer, answer}
 use Rattle.scope.specs.Logic.Derivation.{Rule}

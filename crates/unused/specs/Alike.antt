@@ -1,4 +1,4 @@
--- Two requests that differ only in lines that nobody used. What follows for their answers is in specs/Statements.
+-- Two requests that differ only in lines that nobody used. What follows for their answers is in proofs/Statements.
 use Rattle.std.specs.Prelude.{ℕ, ◌<◌, ◌≡◌, false, List, ◌∷◌, length, get_or}
 use Rattle.scope.specs.Logic.Form.{Form, top, is_sf}
 use Rattle.scope.specs.File.Request.{Request}
