@@ -24,6 +24,7 @@ INNER = re.compile(rf"^\s+(?:(?:pub|abbrev|unfoldable)\s+)*({NAME})(?:\s*\{{[^{{
 LEMMAS = {"has_room", "all_digits", "is_digit", "same_row", "step_row", "by_row", "on_and", "on_or", "with_fact", "row_put", "head_read", "in_order",
           "part_refused", "section_refused", "start_refused"}
 # Definitions that are facts, and so are spelled as types.
+# (`room` of machine became `Room` by hand: variables have that name too.)
 FACTS = {"fitsIn": "FitsIn"}
 
 

@@ -24,12 +24,12 @@ use Rattle.moves.specs.declared.Judged.TheVariants.{Fits, No}
 use Rattle.moves.specs.Steps.{pick, if_found, and_step, or1_step, or2_step, imp_step, says_step, top_step, sf_step, use_step, left_step, right_step, to_imp, to_says, to_step, hit_step, push_step, split_step, case_step, absurd_step, drop_step, note_step}
 use Rattle.moves.specs.Judge.{row_at, find_clause, on_goal, goal_step, on_focus, focus_step, on_chunk, chunk_step, judge_step}
 use Rattle.machine.specs.Change.{chunk_count}
-use Rattle.machine.specs.Room.{room}
+use Rattle.machine.specs.Room.{Room}
 
 -- What is asked of an answer: a move has room.
 unfoldable pub FitsIn : Judged → ℕ → ℕ → ℕ → ℕ → Type 0
-unfolding room
-FitsIn (Fits m) worlds clauses chunks opened = room m worlds clauses chunks opened
+unfolding Room
+FitsIn (Fits m) worlds clauses chunks opened = Room m worlds clauses chunks opened
 FitsIn (No k) worlds clauses chunks opened = Unit
 
 module _ (w c k n : ℕ) where
@@ -63,7 +63,7 @@ module _ (w c k n : ℕ) where
   test false x y p q = q
 
   -- The test of a limit.
-  limit : (most have : ℕ) (m : Move) → (have < most → room m w c k n) → FitsIn (pick (leb most have) (No 10) (Fits m)) w c k n
+  limit : (most have : ℕ) (m : Move) → (have < most → Room m w c k n) → FitsIn (pick (leb most have) (No 10) (Fits m)) w c k n
   unfolding FitsIn pick
   limit most have m free = go (leb most have) refl
     where
@@ -77,7 +77,7 @@ module _ (w c k n : ℕ) where
   if_found_lem found.Nothing = no_move 8
 
   on_and_lem : (r : Row) → FitsIn (and_step r n) w c k n
-  unfolding and_step room
+  unfolding and_step Room
   on_and_lem r = test _ _ _ (limit most_open n (move.Both _ _) (λ h. h)) (no_move 7)
 
   on_or1 : (r : Row) → FitsIn (or1_step r) w c k n
@@ -89,11 +89,11 @@ module _ (w c k n : ℕ) where
   on_or2 r = test _ _ _ (goes _) (no_move 7)
 
   on_imp_lem : (r : Row) → FitsIn (imp_step r w) w c k n
-  unfolding imp_step room
+  unfolding imp_step Room
   on_imp_lem r = test _ _ _ (limit most_worlds w (move.Less _ _) (λ h. h)) (no_move 7)
 
   on_says_lem : (r : Row) → FitsIn (says_step r w) w c k n
-  unfolding says_step room
+  unfolding says_step Room
   on_says_lem r = test _ _ _ (limit most_worlds w (move.Speak _ _) (λ h. h)) (no_move 7)
 
   on_top_lem : (r : Row) → FitsIn (top_step r) w c k n
@@ -131,7 +131,7 @@ module _ (w c k n : ℕ) where
   on_goal_lem forms rows clauses ats r g step.Note = no_move 7
 
   on_focus_lem : (forms rows : List ℕ) (r : Row) (part target : Lab) (x : Step) → FitsIn (on_focus forms rows r part target x w n) w c k n
-  unfolding on_focus room left_step right_step to_step to_imp to_says hit_step
+  unfolding on_focus Room left_step right_step to_step to_imp to_says hit_step
   on_focus_lem forms rows r part target step.And = no_move 7
   on_focus_lem forms rows r part target step.Or1 = no_move 7
   on_focus_lem forms rows r part target step.Or2 = no_move 7
@@ -152,7 +152,7 @@ module _ (w c k n : ℕ) where
   on_focus_lem forms rows r part target step.Note = no_move 7
 
   on_chunk_lem : (r : Row) (x : Step) → FitsIn (on_chunk r k x c n) w c k n
-  unfolding on_chunk room push_step split_step case_step absurd_step drop_step note_step
+  unfolding on_chunk Room push_step split_step case_step absurd_step drop_step note_step
   on_chunk_lem r step.And = no_move 7
   on_chunk_lem r step.Or1 = no_move 7
   on_chunk_lem r step.Or2 = no_move 7
@@ -181,7 +181,7 @@ judged_room forms rows clauses ats (phase.Focus part target) top x w c n = on_fo
 
 -- What a caller of the judge knows of a move that fits.
 pub fits_room : (forms rows clauses ats : List ℕ) (p : Phase) (top : ℕ) (x : Step) (w c n : ℕ) (j : Judged) (m : Move) →
-    j ≡ judge_step forms rows clauses ats p top x w c n → j ≡ Fits m → room m w c (chunk_count p) n
+    j ≡ judge_step forms rows clauses ats p top x w c n → j ≡ Fits m → Room m w c (chunk_count p) n
 unfolding FitsIn
 fits_room forms rows clauses ats p top x w c n j m judged fits =
     subst (λ (k : Judged). FitsIn k w c (chunk_count p) n) (sym judged ∙ fits) (judged_room forms rows clauses ats p top x w c n)

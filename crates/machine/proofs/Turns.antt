@@ -23,7 +23,7 @@ use Rattle.machine.specs.declared.Change.{Change}
 use Rattle.machine.specs.declared.Walked.{Walked}
 use Rattle.machine.specs.Change.{chunk_count, goal_in, change_of}
 use Rattle.machine.specs.Tables.{clause_places, block, top_chunk, chunks_after, saved_after, rows_after}
-use Rattle.machine.specs.Room.{room}
+use Rattle.machine.specs.Room.{Room}
 use Rattle.machine.specs.Machine.{State, nothing, obligation_at, current, step_in, judged_now, moved, go_on, refused_at, ended_at, ran_from, line_noted, lines_noted, lines_put, first, first_stack, begun, ran}
 use Rattle.machine.specs.Turn.{stack_of, state_of}
 
@@ -175,8 +175,8 @@ unfolding moved
 moved_is unit s m o next top made rows chunks saved clauses ats w =
     rw (w.facts, w.held, w.kept, w.change, w.clause, w.world, w.topmost, w.under, w.this) refl
 
-room_after : (m : Move) (o : Obligation) (w c k opened : ℕ) → room m w c k opened → opened ≤ most_open → (change_of m o opened).opened ≤ most_open
-unfolding room change_of
+room_after : (m : Move) (o : Obligation) (w c k opened : ℕ) → Room m w c k opened → opened ≤ most_open → (change_of m o opened).opened ≤ most_open
+unfolding Room change_of
 room_after move.Close o w c k opened r h = omega arith
 room_after (move.Go f) o w c k opened r h = h
 room_after (move.Aim f v) o w c k opened r h = h
@@ -191,7 +191,7 @@ room_after (move.Split f g) o w c k opened r h = h
 room_after (move.Case f g) o w c k opened r h = omega arith
 
 pub made_room : (m : Move) (o : Obligation) (w c k opened : ℕ) (made : Change) → made ≡ change_of m o opened →
-    room m w c k opened → opened ≤ most_open → made.opened ≤ most_open
+    Room m w c k opened → opened ≤ most_open → made.opened ≤ most_open
 made_room m o w c k opened made e r h = rw e (room_after m o w c k opened r h)
 
 -- A whole turn: what is left of the walk, from the state that the turn has written.

@@ -2,7 +2,7 @@
 ghost use Rattle.std.specs.Prelude.{◌≡◌, ◌+◌, ◌-◌, ◌<◌};
 ghost use Rattle.scope.specs.Limits.{most_worlds, most_clauses, most_open, most_chunks};
 ghost use Rattle.machine.specs.Change.{lab, lab_at, chunk_count, goal_in, behind, here, aimed, with_phase, with_clauses, popped, one_more, new_world, alone, fork, change_of};
-ghost use Rattle.machine.specs.Room.{room};
+ghost use Rattle.machine.specs.Room.{Room};
 
 use crate::{Change, Obligation};
 use moves::{Lab, Move, Phase};
@@ -244,7 +244,7 @@ fn after_meet(o: Obligation, f: u16, h: u16, v: World, opened: u16) -> Change
 }
 
 pub(crate) fn change_of(m: Move, o: Obligation, opened: u16) -> Change
-    requires { room m o.worlds o.clauses (chunk_count o.phase) opened }
+    requires { Room m o.worlds o.clauses (chunk_count o.phase) opened }
     ensures { result ≡ change_of m o opened }
 {
     match m {

@@ -1,34 +1,34 @@
 -- `change_of` meets its contract: each arm knows its move, which is the definition's line and says what room there is.
 use Rattle.machine.specs.Change.{change_of}
-use Rattle.machine.specs.Room.{room}
+use Rattle.machine.specs.Room.{Room}
 use Rattle.machine.proofs.changes.change_of.Goals as goal
 
 pub after_both-requires : goal.after_both-requires
-unfolding room
+unfolding Room
 after_both-requires c = rw c.in-Both.is at c.requires
 
 pub after_meet-requires : goal.after_meet-requires
-unfolding room
+unfolding Room
 after_meet-requires c = rw c.in-Meet.is at c.requires
 
 pub after_less-requires : goal.after_less-requires
-unfolding room
+unfolding Room
 after_less-requires c = rw c.in-Less.is at c.requires
 
 pub after_speak-requires : goal.after_speak-requires
-unfolding room
+unfolding Room
 after_speak-requires c = rw c.in-Speak.is at c.requires
 
 pub after_push-requires : goal.after_push-requires
-unfolding room
+unfolding Room
 after_push-requires c = rw c.in-Push.is at c.requires
 
 pub after_split-requires : goal.after_split-requires
-unfolding room
+unfolding Room
 after_split-requires c = rw c.in-Split.is at c.requires
 
 pub fork_to-requires : goal.fork_to-requires
-unfolding room
+unfolding Room
 fork_to-requires c = rw c.in-Case.is at c.requires
 
 pub returns-in-Close : goal.returns-in-Close
