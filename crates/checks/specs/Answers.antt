@@ -34,11 +34,11 @@ form_answers principals atoms rows = each_of (form_answer principals atoms) [] r
 
 unfoldable pub policy_answers : List ℕ → ℕ → List ℕ → List Answer
 policy_answers classes formulas fs =
-    each_of (λ before f. answer (class_refusal policy_in classes formulas f) (clause_at formulas (length before))) [] fs
+    each_of (λ before f. answer (class_refusal policy_in 0 classes formulas f) (clause_at formulas (length before))) [] fs
 
 unfoldable pub goal_answers : List ℕ → ℕ → ℕ → ℕ → ℕ → List Answer
 goal_answers classes formulas policy goal steps =
-    answer (class_refusal goal_in classes formulas goal) (goal_at formulas policy) ∷
+    answer (class_refusal goal_in 0 classes formulas goal) (goal_at formulas policy) ∷
     answer (steps_refusal steps) (steps_at formulas policy) ∷
     []
 

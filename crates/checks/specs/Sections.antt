@@ -58,15 +58,15 @@ form_at_lem p a n t i h =
 
 pub lines_length : (cs : List ℕ) (m n : ℕ) (t : List ℕ) → length (policy_answers cs m (unpack policy_entry n t)) ≡ n
 unfolding policy_answers
-lines_length cs m n t = section_length policy_entry (λ b f. answer (class_refusal policy_in cs m f) (clause_at m (length b))) n t
+lines_length cs m n t = section_length policy_entry (λ b f. answer (class_refusal policy_in 0 cs m f) (clause_at m (length b))) n t
 
 pub line_at : (cs : List ℕ) (m n : ℕ) (t : List ℕ) (i : ℕ) → i < n →
-    answer_at (policy_answers cs m (unpack policy_entry n t)) i ≡ answer (class_refusal policy_in cs m (get_or t i 0)) (clause_at m i)
+    answer_at (policy_answers cs m (unpack policy_entry n t)) i ≡ answer (class_refusal policy_in 0 cs m (get_or t i 0)) (clause_at m i)
 unfolding policy_answers
 line_at cs m n t i h =
-    section_at policy_entry (λ b f. answer (class_refusal policy_in cs m f) (clause_at m (length b))) n t i h ∙
-    ap (λ (j : ℕ). answer (class_refusal policy_in cs m (policy_entry.get (take 1 (drop (1 * i) t)))) (clause_at m j)) (unpack_length policy_entry i t) ∙
-    ap (λ (f : ℕ). answer (class_refusal policy_in cs m f) (clause_at m i)) (number_at t 1 i 0 i (omega arith) (omega arith))
+    section_at policy_entry (λ b f. answer (class_refusal policy_in 0 cs m f) (clause_at m (length b))) n t i h ∙
+    ap (λ (j : ℕ). answer (class_refusal policy_in 0 cs m (policy_entry.get (take 1 (drop (1 * i) t)))) (clause_at m j)) (unpack_length policy_entry i t) ∙
+    ap (λ (f : ℕ). answer (class_refusal policy_in 0 cs m f) (clause_at m i)) (number_at t 1 i 0 i (omega arith) (omega arith))
 
 abbrev pub step_row : List ℕ → ℕ → Row
 step_row t i = record { kind = get_or t (2 * i) 0; left = get_or t (2 * i + 1) 0; right = 0 }
@@ -116,6 +116,6 @@ past_asked t s k l m f r = rw (demand_both, demand_both) (rw (s, l, f) at (r ∙
 
 -- A formula that a line names: its class byte, the test of it, and the two demands.
 pub class_asked : (test : ℕ → Bool) (cs : List ℕ) (n f : ℕ) {class k r : ℕ} {asked : Bool} →
-    class ≡ get_or cs f 0 → asked ≡ test class → k ≡ demand asked 5 0 → r ≡ demand (ltb f n) 3 k → r ≡ class_refusal test cs n f
+    class ≡ get_or cs f 0 → asked ≡ test class → k ≡ demand asked 5 0 → r ≡ demand (ltb f n) 3 k → r ≡ class_refusal test 0 cs n f
 unfolding class_refusal
 class_asked test cs n f c a k r = r ∙ ap (demand (ltb f n) 3) (k ∙ ap (λ (b : Bool). demand b 5 0) (a ∙ ap test c))

@@ -119,14 +119,14 @@ class_go true test classes n f class e h = ap (λ (c : Bool). demand c 5 0) (sym
 class_go false test classes n f class e h = refl
 
 clause_refusal_lem : (t : List ℕ) (n f : ℕ) → n ≤ most_formulas →
-    clause_refusal (unpack form_entry n t) f ≡ class_refusal policy_in (class_table t n) n f
+    clause_refusal (unpack form_entry n t) f ≡ class_refusal policy_in 0 (class_table t n) n f
 unfolding clause_refusal class_refusal
 clause_refusal_lem t n f h =
     rw (unpack_length form_entry n t)
     (class_go (ltb f n) policy_in (class_table t n) n f (policy_class (unpack form_entry n t) f) refl (policy_at t n f h))
 
 goal_refusal_lem : (t : List ℕ) (n f : ℕ) → n ≤ most_formulas →
-    goal_refusal (unpack form_entry n t) f ≡ class_refusal goal_in (class_table t n) n f
+    goal_refusal (unpack form_entry n t) f ≡ class_refusal goal_in 0 (class_table t n) n f
 unfolding goal_refusal class_refusal
 goal_refusal_lem t n f h =
     rw (unpack_length form_entry n t)
@@ -140,7 +140,7 @@ later_parts t h =
     let forms = unpack form_entry n t.form_table in
     let classes = class_table t.form_table n in
     ap (λ (line : ℕ → ℕ). asked t line (goal_refusal forms t.goal)) (λ i f. clause_refusal_lem t.form_table n f h i) ∙
-    ap (λ (goal : ℕ). asked t (class_refusal policy_in classes n) goal) (goal_refusal_lem t.form_table n t.goal h)
+    ap (λ (goal : ℕ). asked t (class_refusal policy_in 0 classes n) goal) (goal_refusal_lem t.form_table n t.goal h)
   where
     asked : Lent → (ℕ → ℕ) → ℕ → List Answer
     asked t line goal =

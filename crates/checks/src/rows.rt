@@ -36,14 +36,14 @@ pub(crate) fn unit_refusal(version: u16, logic: u16) -> u16
 }
 
 pub(crate) fn clause_refusal(classes: &[u8], formulas: u16, f: u16) -> u16
-    ensures { result ≡ class_refusal policy_in classes.now formulas f }
+    ensures { result ≡ class_refusal policy_in 0 classes.now formulas f }
 {
     let class = common::byte_at(classes, f as usize);
     demand_of(f < formulas, 3, demand_of(classes::is_policy(class), 5, 0))
 }
 
 pub(crate) fn goal_refusal(classes: &[u8], formulas: u16, f: u16) -> u16
-    ensures { result ≡ class_refusal goal_in classes.now formulas f }
+    ensures { result ≡ class_refusal goal_in 0 classes.now formulas f }
 {
     let class = common::byte_at(classes, f as usize);
     demand_of(f < formulas, 3, demand_of(classes::is_goal(class), 5, 0))

@@ -14,10 +14,10 @@ use Rattle.scope.specs.File.Refusals.{demand, in_range, is_earlier, pass, rest_z
 abbrev pub row : ℕ → ℕ → ℕ → Row
 row k l r = record { kind = k; left = l; right = r }
 
--- A formula that a policy line or the goal names: it is below the count, and of the class that this test of its class byte asks.
-unfoldable pub class_refusal : (ℕ → Bool) → List ℕ → ℕ → ℕ → ℕ
+-- A formula that a policy line or the goal names: it is below the count, and its classes pass this test. Past the table stand those of none.
+unfoldable pub class_refusal : {C : Type 0} → (C → Bool) → C → List C → ℕ → ℕ → ℕ
 unfolding demand
-class_refusal test classes formulas f = demand (ltb f formulas) 3 (demand (test (get_or classes f 0)) 5 0)
+class_refusal test none classes formulas f = demand (ltb f formulas) 3 (demand (test (get_or classes f none)) 5 0)
 
 -- Three demands in a row: 3, 3 and 4.
 abbrev pub demands : Bool → Bool → Bool → ℕ

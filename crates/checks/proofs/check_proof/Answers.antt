@@ -17,7 +17,7 @@ unfolding goal_answers
 returns-in_default c =
     let a = c.args in
     let n = a.counts in
-    let goal = answer (class_refusal goal_in a.classes.now n.formulas n.goal) (goal_at n.formulas n.policy) in
+    let goal = answer (class_refusal goal_in 0 a.classes.now n.formulas n.goal) (goal_at n.formulas n.policy) in
     let count = answer (steps_refusal n.steps) (steps_at n.formulas n.policy) in
     let all = step_answers n.formulas n.policy (unpack step_entry n.steps a.steps.now) in
     let g = c.answer_at-goal in
@@ -29,7 +29,7 @@ unfolding goal_answers
 returns-in_default-count c =
     let a = c.args in
     let n = a.counts in
-    let goal = answer (class_refusal goal_in a.classes.now n.formulas n.goal) (goal_at n.formulas n.policy) in
+    let goal = answer (class_refusal goal_in 0 a.classes.now n.formulas n.goal) (goal_at n.formulas n.policy) in
     let count = answer (steps_refusal n.steps) (steps_at n.formulas n.policy) in
     let all = step_answers n.formulas n.policy (unpack step_entry n.steps a.steps.now) in
     let g = c.answer_at-goal in
@@ -44,7 +44,7 @@ unfolding goal_answers
 returns c =
     let a = c.args in
     let n = a.counts in
-    let goal = answer (class_refusal goal_in a.classes.now n.formulas n.goal) (goal_at n.formulas n.policy) in
+    let goal = answer (class_refusal goal_in 0 a.classes.now n.formulas n.goal) (goal_at n.formulas n.policy) in
     let count = answer (steps_refusal n.steps) (steps_at n.formulas n.policy) in
     let all = step_answers n.formulas n.policy (unpack step_entry n.steps a.steps.now) in
     let g = c.answer_at-goal in
