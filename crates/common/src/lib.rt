@@ -8,6 +8,8 @@ ghost use Rattle.scope.specs.Logic.Form.{both};
 ghost use Rattle.scope.specs.Call.Tables.{has_room};
 ghost use Rattle.scope.specs.Limits.{version_at, logic_at, extra_lines, principals_at, atoms_at, formulas_at, form_at, clauses_at, clause_at, goal_at, steps_at, step_at, end_at};
 
+pub mod kinds;
+
 // 'What the numbers count': what is allowed. The definitions name the same limits in scope/specs/Limits.
 pub const MOST_BYTES: usize = 65536;
 
