@@ -9,7 +9,7 @@ use Rattle.scope.specs.File.Kinds.{logic_of}
 use Rattle.scope.specs.File.Refusals.{demand, unit_refusal}
 use Rattle.scope.specs.Call.Checked.{first_met}
 use Rattle.common.specs.Answers.{answer_of}
-use Rattle.common.specs.declared.Answer.{Answer as Returned}
+use Rattle.common.specs.declared.refused.Answer.{Answer as Returned}
 use Rattle.checks.specs.declared.Checked.{Checked}
 use Rattle.checks.specs.declared.Checked.TheVariants.{Fine, Refused}
 use Rattle.checks.specs.Met.{answer_in, checked_of, met_in, down_of}

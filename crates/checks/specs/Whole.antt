@@ -12,7 +12,7 @@ use Rattle.scope.specs.Call.Tables.{Lent, unpack, form_entry, policy_entry, step
 use Rattle.classes.specs.Class.{goal_in, policy_in, class_table}
 use Rattle.classes.specs.Rows.{unpack_length}
 use Rattle.classes.specs.Laws.{goal_at_lem, policy_at}
-use Rattle.common.specs.declared.Answer.{Answer as Returned}
+use Rattle.common.specs.declared.refused.Answer.{Answer as Returned}
 use Rattle.checks.specs.Met.{answer_in, checked_of, met_in, down_of}
 use Rattle.checks.specs.MetLaws.{first_answer, met_down, met_stop, met_go, met_front, met_back, met_one, fine_none}
 use Rattle.checks.specs.declared.Checked.{Checked}

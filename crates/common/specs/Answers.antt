@@ -1,7 +1,7 @@
 -- The answer that the code returns and document 01's: the same numbers.
 use Rattle.std.specs.Prelude.{◌≡◌, refl}
 use Rattle.scope.specs.Call.Answer.{Answer, told}
-use Rattle.common.specs.declared.Answer.{Answer as Returned}
+use Rattle.common.specs.declared.refused.Answer.{Answer as Returned}
 
 abbrev pub answer_of : Answer → Returned
 answer_of (told k place column) = record { refusal = k; place = place; column = column }

@@ -35,6 +35,12 @@ pub const MOST_CHUNKS: u16 = 16;
 
 pub const MOST_STEP_NUMBER: u32 = 65535;
 
+mod refused;
+mod rows;
+
+pub use refused::{Answer, Refusal};
+pub use rows::{FormKind, Row, put_row, row_at};
+
 // The kinds of formulas and of steps that scope/specs/File/Kinds lists.
 pub const FORM_KINDS: usize = 8;
 
@@ -50,7 +56,7 @@ pub const STEP_ROOM: usize = 2 * (MOST_STEPS as usize);
 // Version and logic, the counts and the goal of a request, laid out for programs in other languages too. The logic is 0 for plain and 1 for
 // unit; a call that is told any other number takes it for unit.
 #[repr(C)]
-#[derive(Clone, Copy)]
+#[derive(Clone, Copy, Default)]
 pub struct Counts {
     pub version: u16,
     pub logic: u16,
@@ -60,16 +66,6 @@ pub struct Counts {
     pub policy: u16,
     pub goal: u16,
     pub steps: u16,
-}
-
-// What comes back: a refusal number of document 01, 0 where there is none, its place, and for 2 the column. Laid out for programs in other
-// languages too.
-#[repr(C)]
-#[derive(Clone, Copy)]
-pub struct Answer {
-    pub refusal: u16,
-    pub place: u32,
-    pub column: u16,
 }
 
 // The lines of the file, counted from 1. All that follow `version=` are told from the line of `principals=`, as version 1 counts them.
@@ -179,6 +175,33 @@ pub fn both_of(a: bool, b: bool) -> bool
     if a { b } else { false }
 }
 
+// What stands at a place of a table; past its end, what is told.
+pub fn value_at<T: Copy>(table: &[T], at: usize, past: T) -> T
+    ensures { result ≡ get_or table.now at past }
+{
+    table.get(at).copied().unwrap_or(past)
+}
+
+// A store past the end of a table changes nothing.
+pub fn put_at<T: Copy>(table: &mut [T], at: usize, value: T)
+    ensures { table.new ≡ set table.old at value }
+{
+    if at < table.len() {
+        table[at] = value;
+    }
+}
+
+// A text from a place on: what passes the end is not stored.
+pub fn put_bytes(out: &mut [u8], at: usize, text: &[u8])
+    ensures { out.new ≡ sets out.old at text.now }
+{
+    if out.len() <= at {
+        return;
+    }
+    let end = text.len().min(out.len() - at);
+    out[at..at + end].copy_from_slice(&text[..end]);
+}
+
 // What stands at a place of a table, 0 past its end.
 pub fn entry_at(table: &[u16], at: usize) -> u16
     ensures { result ≡ get_or table.now at 0 }
@@ -207,24 +230,6 @@ pub fn zero_bytes(out: &mut [u8])
     let mut i = 0;
     while i < out.len() {
         out[i] = 0;
-        i += 1;
-    }
-}
-
-// A text from a place on: what passes the end is not stored.
-pub fn put_bytes(out: &mut [u8], at: usize, text: &[u8])
-    ensures { out.new ≡ sets out.old at text.now }
-{
-    if out.len() <= at {
-        return;
-    }
-    let room = out.len() - at;
-    let mut i = 0;
-    while i < text.len() {
-        if room <= i {
-            return;
-        }
-        out[at + i] = text[i];
         i += 1;
     }
 }

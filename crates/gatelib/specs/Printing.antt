@@ -12,7 +12,7 @@ use Rattle.scope.specs.Call.Calls.{form_table_after, policy_table_after, step_ta
 use Rattle.scope.specs.Call.Judge.{judge, prints, printed, gate}
 use Rattle.scope.specs.Call.Judge as J
 use Rattle.common.specs.declared.Counts.{Counts}
-use Rattle.common.specs.declared.Answer.{Answer as Returned}
+use Rattle.common.specs.declared.refused.Answer.{Answer as Returned}
 use Rattle.checks.specs.Met.{lent_with}
 use Rattle.reader.specs.declared.Reading.{Reading}
 use Rattle.reader.specs.Answers.{counts_of, reading_of, logic_back}

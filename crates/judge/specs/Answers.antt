@@ -3,7 +3,7 @@ use Rattle.checks.specs.declared.Checked.{Checked}
 use Rattle.checks.specs.declared.Checked.TheVariants as checked
 use Rattle.machine.specs.declared.Walked.{Walked}
 use Rattle.machine.specs.declared.Walked.TheVariants as walked
-use Rattle.common.specs.declared.Answer.{Answer}
+use Rattle.common.specs.declared.refused.Answer.{Answer}
 
 -- What the checks refuse.
 unfoldable pub refusal_answer : Checked → Answer

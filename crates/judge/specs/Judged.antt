@@ -8,7 +8,7 @@ use Rattle.scope.specs.Call.Answer.{told, answer}
 use Rattle.scope.specs.Call.Tables.{Lent, request_of}
 use Rattle.scope.specs.Call.Checked.{checked}
 use Rattle.scope.specs.Call.Judge.{steps_answer, judge, else}
-use Rattle.common.specs.declared.Answer.{Answer as Returned}
+use Rattle.common.specs.declared.refused.Answer.{Answer as Returned}
 use Rattle.checks.specs.declared.Checked.TheVariants.{Fine, Refused}
 use Rattle.checks.specs.Met.{checked_of}
 use Rattle.machine.specs.declared.Walked.{Walked}

@@ -9,7 +9,7 @@ use Rattle.scope.specs.Call.Judge.{policy_of, goal_of, judge}
 use Rattle.scope.specs.Logic.Models.{Entailed}
 use Rattle.demands.specs.Judged.{Grants, judge_allowed, allowed_grants}
 use Rattle.demands.proofs.Judged.{judge_grants, judge_entails}
-use Rattle.common.specs.declared.Answer.{Answer}
+use Rattle.common.specs.declared.refused.Answer.{Answer}
 use Rattle.common.specs.Answers.{answer_of}
 
 zero_allowed : (t : Lent) (a : S.Answer) → judge t ≡ a → (answer_of a).refusal ≡ 0 → Grants t

@@ -11,7 +11,7 @@ use Rattle.scope.specs.Call.Answer.{Answer, told, answer, column_for}
 use Rattle.scope.specs.Call.Calls.{no_request, request_in}
 use Rattle.common.specs.Answers.{answer_of, answer_is, answer_back}
 use Rattle.common.specs.declared.Counts.{Counts}
-use Rattle.common.specs.declared.Answer.{Answer as Returned}
+use Rattle.common.specs.declared.refused.Answer.{Answer as Returned}
 use Rattle.steps.specs.Steps.{step_from}
 use Rattle.reader.specs.Sections.{Told, Counted, Formulas, PolicyRead}
 use Rattle.reader.specs.declared.Reading.{Reading}

@@ -13,7 +13,7 @@ use Rattle.scope.specs.Limits.{most_formulas, form_at}
 use Rattle.scope.specs.File.Refusals.{demand, row_refusal, is_among, first_of, form_refusal}
 use Rattle.scope.specs.File.Reader.{form_item}
 use Rattle.lines.specs.Values.{Behind}
-use Rattle.common.specs.declared.Answer.{Answer as Returned}
+use Rattle.common.specs.declared.refused.Answer.{Answer as Returned}
 use Rattle.refusals.specs.Rows.{row}
 use Rattle.numbering.specs.Slots.{most_slots, place_in, kept_at}
 use Rattle.numbering.specs.Numbered.{Numbered, numbered_none}

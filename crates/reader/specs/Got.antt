@@ -9,7 +9,7 @@ use Rattle.scope.specs.Call.Tables.{Entry, table}
 use Rattle.common.specs.Answers.{answer_of, answer_is, answer_back}
 use Rattle.lines.specs.Parts.{tail_part}
 use Rattle.common.specs.declared.Counts.{Counts}
-use Rattle.common.specs.declared.Answer.{Answer as Returned}
+use Rattle.common.specs.declared.refused.Answer.{Answer as Returned}
 use Rattle.reader.specs.Answers.{section_of, part_of}
 use Rattle.reader.specs.Many.{Ends, tail_drop}
 use Rattle.reader.specs.declared.Section.TheVariants as Section

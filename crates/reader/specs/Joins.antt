@@ -20,7 +20,7 @@ use Rattle.classes.specs.Rows.{unpack_length}
 use Rattle.classes.specs.Laws.{goal_at_lem, policy_at}
 use Rattle.lines.specs.Parts.{value_of, rest_of}
 use Rattle.common.specs.declared.Counts.{Counts}
-use Rattle.common.specs.declared.Answer.{Answer as Returned}
+use Rattle.common.specs.declared.refused.Answer.{Answer as Returned}
 use Rattle.refusals.specs.Rows.{class_refusal}
 use Rattle.reader.specs.Sections.{Counted, Formulas, PolicyRead, head_part, formulas_part, policy_part, steps_part, classed_item}
 use Rattle.reader.specs.Answers.{refused_at, number_line_of, section_of, head_counts, formulas_counts, policy_counts, steps_counts, part_of}

@@ -16,7 +16,7 @@ use Rattle.scope.specs.Call.Tables.{form_entry, policy_entry, step_entry, table,
 use Rattle.scope.specs.Call.Calls.{reading, request_in, form_table_after, policy_table_after, step_table_after}
 use Rattle.common.specs.Answers.{answer_of, answer_is, answer_back}
 use Rattle.common.specs.declared.Counts.{Counts}
-use Rattle.common.specs.declared.Answer.{Answer as Returned}
+use Rattle.common.specs.declared.refused.Answer.{Answer as Returned}
 use Rattle.reader.specs.Sections.{Formulas, PolicyRead, formulas_part, policy_part, steps_part}
 use Rattle.reader.specs.Answers.{counts_of, reading_of, formulas_counts, policy_counts, steps_counts, part_of}
 use Rattle.reader.specs.Many.{tail_length}

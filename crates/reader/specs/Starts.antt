@@ -14,7 +14,7 @@ use Rattle.scope.specs.File.Reader.{Outcome, body_lines, read_logic, read_reques
 use Rattle.scope.specs.Limits.{most_bytes, version_at, logic_at}
 use Rattle.scope.specs.Tools.Tests.{never}
 use Rattle.common.specs.Answers.{answer_of, answer_is, answer_back}
-use Rattle.common.specs.declared.Answer.{Answer as Returned}
+use Rattle.common.specs.declared.refused.Answer.{Answer as Returned}
 use Rattle.trip.specs.LinePlaces.{lfs, lfs_within}
 use Rattle.trip.proofs.Places.{body_from}
 use Rattle.reader.specs.Sections.{Told, start_part}

@@ -19,7 +19,7 @@ use Rattle.common.specs.Answers.{answer_of}
 use Rattle.classes.specs.Class.{policy_in}
 use Rattle.lines.specs.Parts.{value_of, rest_of}
 use Rattle.lines.specs.Values.{Behind}
-use Rattle.common.specs.declared.Answer.{Answer as Returned}
+use Rattle.common.specs.declared.refused.Answer.{Answer as Returned}
 use Rattle.steps.specs.declared.Step.{Step}
 use Rattle.steps.specs.declared.Pair.{Pair}
 use Rattle.steps.specs.Steps.{pair_of}

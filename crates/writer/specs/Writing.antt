@@ -11,7 +11,7 @@ use Rattle.scope.specs.Call.Tables.{Lent, request_of, padded}
 use Rattle.scope.specs.Call.Checked.{checked}
 use Rattle.scope.specs.Call.Calls.{Written, written_if, writing, text_in, output_after}
 use Rattle.common.specs.Answers.{answer_of, answer_is}
-use Rattle.common.specs.declared.Answer.{Answer as Returned}
+use Rattle.common.specs.declared.refused.Answer.{Answer as Returned}
 use Rattle.checks.specs.declared.Checked.{Checked}
 use Rattle.checks.specs.declared.Checked.TheVariants.{Fine, Refused}
 use Rattle.checks.specs.Met.{checked_of}
