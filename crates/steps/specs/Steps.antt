@@ -1,5 +1,5 @@
 -- The code's steps by their numbers, and the steps of document 01 that they mean.
-use Rattle.std.specs.Prelude.{ℕ, zero, suc, ◌-◌, ◌≤◌, ◌<◌, ◌≡◌, refl, List, [], ◌∷◌, get_or}
+use Rattle.std.specs.Prelude.{ℕ, zero, suc, ◌+◌, ◌-◌, ◌*◌, ◌≤◌, ◌<◌, ◌≡◌, refl, List, [], ◌∷◌, get_or}
 use Rattle.std.proofs.Common.{arith, sym, ap, ◌∙◌}
 use Rattle.std.proofs.Math.ListN.{get_or-map}
 use Rattle.scope.specs.File.Request.{Row}
@@ -11,6 +11,10 @@ use Rattle.steps.specs.declared.Step.TheVariants.{And, Or1, Or2, Imp, Says, Top,
 
 abbrev pub pair : ℕ → ℕ → Pair
 pair k n = record { kind = k; number = n }
+
+-- The two numbers of step i in a table, 0 past its end.
+unfoldable pub pair_at : List ℕ → ℕ → Pair
+pair_at steps i = pair (get_or steps (2 * i) 0) (get_or steps (2 * i + 1) 0)
 
 -- Kinds are numbered 0 to 17.
 abbrev in_order : ℕ → List Step
