@@ -1,1 +1,2 @@
-mod Filling
+pub mod Filling
+pub mod Named

@@ -1,53 +1,78 @@
--- 'Which formulas may stand where': the classes of a formula as one byte, 1 a goal, 2 a policy line, 4 a clause, 8 a chunk.
-use Rattle.std.specs.Prelude.{ℕ, ◌+◌, ◌*◌, ◌/◌, ◌%◌, min, List, [], ◌∷◌, map, Bool, true, false, eqb, get_or}
+-- 'Which formulas may stand where': the classes of a formula.
+use Rattle.std.specs.Prelude.{ℕ, ◌-◌, min, List, [], ◌∷◌, ◌++◌, map, Bool, true, false, length, get_or, replicate}
 use Rattle.scope.specs.Logic.Form.{Form, both, is_goal, is_clause, is_chunk, is_policy}
 use Rattle.scope.specs.File.Request.{forms_after}
-use Rattle.scope.specs.Call.Tables.{form_entry, unpack, padded}
+use Rattle.scope.specs.Call.Tables.{form_entry, unpack}
 use Rattle.scope.specs.Limits.{most_formulas}
-
-unfoldable pub bit : Bool → ℕ
-bit true = 1
-bit false = 0
-
-unfoldable pub class_byte : Bool → Bool → Bool → Bool → ℕ
-class_byte goal policy clause chunk = bit goal + 2 * bit policy + 4 * bit clause + 8 * bit chunk
+use Rattle.classes.specs.declared.Class.{Class}
 
 -- The classes of a formula.
-unfoldable pub class_of : Form → ℕ
-class_of f = class_byte (is_goal f) (is_policy f) (is_clause f) (is_chunk f)
+unfoldable pub class_of : Form → Class
+class_of f = record { goal = is_goal f; policy = is_policy f; clause = is_clause f; chunk = is_chunk f }
 
--- The classes of the first formulas of a table, at most as many as a table holds, then zeros.
-unfoldable pub class_table : List ℕ → ℕ → List ℕ
-class_table t n = padded most_formulas (map class_of (forms_after [] (unpack form_entry (min n most_formulas) t)))
+-- What stands where no formula does.
+abbrev pub no_class : Class
+no_class = record { goal = false; policy = false; clause = false; chunk = false }
 
--- A class asked of a byte.
-abbrev pub goal_in : ℕ → Bool
-goal_in c = eqb (c % 2) 1
+-- The classes of `top`.
+abbrev pub all_classes : Class
+all_classes = record { goal = true; policy = true; clause = true; chunk = true }
 
-abbrev pub policy_in : ℕ → Bool
-policy_in c = eqb (c / 2 % 2) 1
+abbrev pub bot_class : Class
+bot_class = record { goal = true; policy = false; clause = false; chunk = true }
 
-abbrev pub clause_in : ℕ → Bool
-clause_in c = eqb (c / 4 % 2) 1
+abbrev pub sf_class : Class
+sf_class = record { goal = true; policy = true; clause = false; chunk = true }
 
-abbrev pub chunk_in : ℕ → Bool
-chunk_in c = eqb (c / 8 % 2) 1
+-- The classes of the first formulas of a table, at most as many as a table holds, then no classes.
+unfoldable pub class_table : List ℕ → ℕ → List Class
+class_table t n =
+    let cs = map class_of (forms_after [] (unpack form_entry (min n most_formulas) t)) in
+    cs ++ replicate (most_formulas - length cs) no_class
+
+-- A class asked of a formula's classes.
+abbrev pub goal_in : Class → Bool
+goal_in c = c.goal
+
+abbrev pub policy_in : Class → Bool
+policy_in c = c.policy
+
+abbrev pub clause_in : Class → Bool
+clause_in c = c.clause
+
+abbrev pub chunk_in : Class → Bool
+chunk_in c = c.chunk
 
 -- The classes of a formula from those of its parts.
-unfoldable pub and_class : ℕ → ℕ → ℕ
+unfoldable pub and_class : Class → Class → Class
+unfolding both
 and_class l r =
-    class_byte (both (goal_in l) (goal_in r)) (both (clause_in l) (clause_in r)) (both (clause_in l) (clause_in r)) (both (chunk_in l) (chunk_in r))
+    record { goal = both l.goal r.goal; policy = both l.clause r.clause; clause = both l.clause r.clause; chunk = both l.chunk r.chunk }
 
-unfoldable pub or_class : ℕ → ℕ → ℕ
-or_class l r = class_byte (both (goal_in l) (goal_in r)) false false (both (chunk_in l) (chunk_in r))
+unfoldable pub or_class : Class → Class → Class
+unfolding both
+or_class l r = record { goal = both l.goal r.goal; policy = false; clause = false; chunk = both l.chunk r.chunk }
 
-unfoldable pub imp_class : ℕ → ℕ → ℕ
+unfoldable pub imp_class : Class → Class → Class
+unfolding both
 imp_class l r =
-    class_byte (both (chunk_in l) (goal_in r)) (both (goal_in l) (clause_in r)) (both (goal_in l) (clause_in r)) (both (goal_in l) (clause_in r))
+    record { goal = both l.chunk r.goal; policy = both l.goal r.clause; clause = both l.goal r.clause; chunk = both l.goal r.clause }
 
-unfoldable pub says_class : ℕ → ℕ
-says_class r = class_byte (goal_in r) (clause_in r) (clause_in r) (clause_in r)
+unfoldable pub says_class : Class → Class
+says_class r = record { goal = r.goal; policy = r.clause; clause = r.clause; chunk = r.clause }
 
 -- p, top, bot, and, or, imp, says, sf; an unknown kind means top.
-unfoldable pub row_class : ℕ → ℕ → ℕ → ℕ
-row_class kind l r = get_or (15 ∷ 15 ∷ 9 ∷ and_class l r ∷ or_class l r ∷ imp_class l r ∷ says_class r ∷ 11 ∷ []) kind 15
+unfoldable pub row_class : ℕ → Class → Class → Class
+row_class kind l r =
+    get_or
+    (all_classes ∷
+    all_classes ∷
+    bot_class ∷
+    and_class l r ∷
+    or_class l r ∷
+    imp_class l r ∷
+    says_class r ∷
+    sf_class ∷
+    [])
+    kind
+    all_classes

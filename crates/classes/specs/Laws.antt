@@ -1,50 +1,27 @@
--- What the bytes of a class table say: each bit is the class of document 01, and a row's classes follow from those of its parts.
-use Rattle.std.specs.Prelude.{ℕ, zero, suc, ◌-◌, ◌≤◌, ◌<◌, ◌≡◌, refl, List, [], map, Bool, true, false, length, get_or, replicate}
+-- What a class table says: each class is that of document 01, and a row's classes follow from those of its parts.
+use Rattle.std.specs.Prelude.{ℕ, zero, suc, ◌-◌, ◌++◌, ◌≤◌, ◌<◌, ◌≡◌, refl, List, [], map, Bool, true, false, length, get_or, replicate}
 use Rattle.std.proofs.Math.Nat.{min-eq_left}
 use Rattle.std.proofs.Common.{arith, ap, sym, ◌∙◌}
 use Rattle.std.proofs.lemmas.List.{length-map}
 use Rattle.std.proofs.Math.ListN.{get_or-append, get_or-map}
 use Rattle.scope.specs.Logic.Form.{Form, atom, top, bot, and, or, imp, says, sf, either, is_goal, is_clause, is_chunk, is_policy, is_sf}
 use Rattle.scope.specs.File.Request.{row_form, forms_after, formula, goal_class, policy_class}
-use Rattle.scope.specs.Call.Tables.{form_entry, unpack, padded}
+use Rattle.scope.specs.Call.Tables.{form_entry, unpack}
 use Rattle.scope.specs.Limits.{most_formulas}
-use Rattle.classes.specs.Class.{bit, class_byte, class_of, class_table, goal_in, policy_in, clause_in, chunk_in, and_class, or_class, imp_class, says_class, row_class}
+use Rattle.classes.specs.declared.Class.{Class}
+use Rattle.classes.specs.Class.{no_class, all_classes, bot_class, sf_class, class_of, class_table, goal_in, policy_in, clause_in, chunk_in, and_class, or_class, imp_class, says_class, row_class}
 use Rattle.classes.specs.Rows.{forms_length, unpack_length, get_d_any}
 
-pub bit_small : (b : Bool) → bit b ≤ 1
-unfolding bit
-bit_small true = omega arith
-bit_small false = omega arith
-
--- What a byte made of four classes says of each.
-pub record Says (c : ℕ) (goal policy clause chunk : Bool) : Type 0 where
+-- What four classes put together say of each.
+pub record Says (c : Class) (goal policy clause chunk : Bool) : Type 0 where
   pub goals : goal_in c ≡ goal
   pub policies : policy_in c ≡ policy
   pub clauses : clause_in c ≡ clause
   pub chunks : chunk_in c ≡ chunk
 
-pub byte_says : (goal policy clause chunk : Bool) → Says (class_byte goal policy clause chunk) goal policy clause chunk
-unfolding class_byte bit
-byte_says true true true true = record { goals = refl; policies = refl; clauses = refl; chunks = refl }
-byte_says true true true false = record { goals = refl; policies = refl; clauses = refl; chunks = refl }
-byte_says true true false true = record { goals = refl; policies = refl; clauses = refl; chunks = refl }
-byte_says true true false false = record { goals = refl; policies = refl; clauses = refl; chunks = refl }
-byte_says true false true true = record { goals = refl; policies = refl; clauses = refl; chunks = refl }
-byte_says true false true false = record { goals = refl; policies = refl; clauses = refl; chunks = refl }
-byte_says true false false true = record { goals = refl; policies = refl; clauses = refl; chunks = refl }
-byte_says true false false false = record { goals = refl; policies = refl; clauses = refl; chunks = refl }
-byte_says false true true true = record { goals = refl; policies = refl; clauses = refl; chunks = refl }
-byte_says false true true false = record { goals = refl; policies = refl; clauses = refl; chunks = refl }
-byte_says false true false true = record { goals = refl; policies = refl; clauses = refl; chunks = refl }
-byte_says false true false false = record { goals = refl; policies = refl; clauses = refl; chunks = refl }
-byte_says false false true true = record { goals = refl; policies = refl; clauses = refl; chunks = refl }
-byte_says false false true false = record { goals = refl; policies = refl; clauses = refl; chunks = refl }
-byte_says false false false true = record { goals = refl; policies = refl; clauses = refl; chunks = refl }
-byte_says false false false false = record { goals = refl; policies = refl; clauses = refl; chunks = refl }
-
 pub class_says : (f : Form) → Says (class_of f) (is_goal f) (is_policy f) (is_clause f) (is_chunk f)
 unfolding class_of
-class_says f = byte_says (is_goal f) (is_policy f) (is_clause f) (is_chunk f)
+class_says f = record { goals = refl; policies = refl; clauses = refl; chunks = refl }
 
 -- A clause is a policy line, and `and`, `imp` and `says` are no `sf`.
 either_false : (b : Bool) → either b false ≡ b
@@ -54,41 +31,32 @@ either_false false = refl
 
 and_class_lem : (f g : Form) → class_of (and f g) ≡ and_class (class_of f) (class_of g)
 unfolding and_class class_of is_policy is_sf is_goal is_clause is_chunk
-and_class_lem f g =
-    let a = class_says f in
-    let b = class_says g in
-    simp (a.goals, a.clauses, a.chunks, b.goals, b.clauses, b.chunks, either_false)
+and_class_lem f g = simp either_false
 
 or_class_lem : (f g : Form) → class_of (or f g) ≡ or_class (class_of f) (class_of g)
 unfolding or_class class_of is_policy is_sf is_goal is_clause is_chunk either
-or_class_lem f g =
-    let a = class_says f in
-    let b = class_says g in
-    simp (a.goals, a.chunks, b.goals, b.chunks)
+or_class_lem f g = refl
 
 imp_class_lem : (f g : Form) → class_of (imp f g) ≡ imp_class (class_of f) (class_of g)
 unfolding imp_class class_of is_policy is_sf is_goal is_clause is_chunk
-imp_class_lem f g =
-    let a = class_says f in
-    let b = class_says g in
-    simp (a.goals, a.chunks, b.goals, b.clauses, either_false)
+imp_class_lem f g = simp either_false
 
 says_class_lem : (a : ℕ) (f : Form) → class_of (says a f) ≡ says_class (class_of f)
 unfolding says_class class_of is_policy is_sf is_goal is_clause is_chunk
-says_class_lem a f =
-    let b = class_says f in
-    simp (b.goals, b.clauses, either_false)
+says_class_lem a f = simp either_false
 
-plain_classes : (p a b : ℕ) → (class_of (atom p) ≡ 15) × (class_of top ≡ 15) × (class_of bot ≡ 9) × (class_of (sf a b) ≡ 11)
-unfolding class_of class_byte bit is_policy is_sf is_goal is_clause is_chunk either
+plain_classes : (p a b : ℕ) →
+    (class_of (atom p) ≡ all_classes) × (class_of top ≡ all_classes) × (class_of bot ≡ bot_class) × (class_of (sf a b) ≡ sf_class)
+unfolding class_of is_policy is_sf is_goal is_clause is_chunk either
 plain_classes p a b = (refl, refl, refl, refl)
 
-part_class : (fs : List Form) (i : ℕ) → get_or (map class_of fs) i 15 ≡ class_of (get_or fs i top)
-part_class fs i = ap (λ (d : ℕ). get_or (map class_of fs) i d) (sym (plain_classes 0 0 0).1) ∙ get_or-map class_of fs i top
+part_class : (fs : List Form) (i : ℕ) → get_or (map class_of fs) i all_classes ≡ class_of (get_or fs i top)
+part_class fs i = ap (λ (d : Class). get_or (map class_of fs) i d) (sym (plain_classes 0 0 0).1) ∙ get_or-map class_of fs i top
 
 -- The classes of a row's formula, from those of the formulas before it.
 pub row_class_lem : (fs : List Form) (k l r : ℕ) →
-    class_of (row_form fs record { kind = k; left = l; right = r }) ≡ row_class k (get_or (map class_of fs) l 15) (get_or (map class_of fs) r 15)
+    class_of (row_form fs record { kind = k; left = l; right = r }) ≡
+    row_class k (get_or (map class_of fs) l all_classes) (get_or (map class_of fs) r all_classes)
 unfolding row_form row_class
 row_class_lem fs zero l r = (plain_classes l l r).0
 row_class_lem fs (suc zero) l r = (plain_classes l l r).1
@@ -102,30 +70,30 @@ row_class_lem fs (suc (suc (suc (suc (suc (suc (suc (suc k)))))))) l r = (plain_
 
 -- Entry i of a class table is the classes of formula i.
 pub class_at : (t : List ℕ) (n i : ℕ) → n ≤ most_formulas → i < n →
-    get_or (class_table t n) i 0 ≡ class_of (formula (unpack form_entry n t) i)
-unfolding class_table padded formula
+    get_or (class_table t n) i no_class ≡ class_of (formula (unpack form_entry n t) i)
+unfolding class_table formula
 class_at t n i h k =
     let fs = forms_after [] (unpack form_entry n t) in
     let l : i < length (map class_of fs) = simp (length-map, forms_length, unpack_length) (omega arith) in
-    let d : i < length fs = simp (forms_length, unpack_length) (omega arith) in
-    ap (λ (m : ℕ). get_or (padded most_formulas (map class_of (forms_after [] (unpack form_entry m t)))) i 0) (min-eq_left h) ∙
-    get_or-append (map class_of fs) (replicate (most_formulas - length (map class_of fs)) 0) 0 i l ∙
-    get_d_any (map class_of fs) i 0 (class_of top) l ∙
+    let padded : List Class → List Class = λ cs. cs ++ replicate (most_formulas - length cs) no_class in
+    ap (λ (m : ℕ). get_or (padded (map class_of (forms_after [] (unpack form_entry m t)))) i no_class) (min-eq_left h) ∙
+    get_or-append (map class_of fs) (replicate (most_formulas - length (map class_of fs)) no_class) no_class i l ∙
+    get_d_any (map class_of fs) i no_class (class_of top) l ∙
     get_or-map class_of fs i top
 
--- Bit 1 of entry i is whether formula i is a goal, bit 2 whether it may be a policy line.
+-- `goal` of entry i is whether formula i is a goal, `policy` whether it may be a policy line.
 pub goal_at_lem : (t : List ℕ) (n i : ℕ) → n ≤ most_formulas → i < n →
-    goal_in (get_or (class_table t n) i 0) ≡ goal_class (unpack form_entry n t) i
+    goal_in (get_or (class_table t n) i no_class) ≡ goal_class (unpack form_entry n t) i
 unfolding goal_class
 goal_at_lem t n i h k = rw (class_at t n i h k) (class_says (formula (unpack form_entry n t) i)).goals
 
 pub policy_at : (t : List ℕ) (n i : ℕ) → n ≤ most_formulas → i < n →
-    policy_in (get_or (class_table t n) i 0) ≡ policy_class (unpack form_entry n t) i
+    policy_in (get_or (class_table t n) i no_class) ≡ policy_class (unpack form_entry n t) i
 unfolding policy_class
 policy_at t n i h k = rw (class_at t n i h k) (class_says (formula (unpack form_entry n t) i)).policies
 
 -- A kind of which nothing else is said has the classes of `top`.
-pub other_class : (k l r : ℕ) → (k ≡ 2 → ⊥) → (k ≡ 3 → ⊥) → (k ≡ 4 → ⊥) → (k ≡ 5 → ⊥) → (k ≡ 6 → ⊥) → (k ≡ 7 → ⊥) → 15 ≡ row_class k l r
+pub other_class : (k : ℕ) (l r : Class) → (k ≡ 2 → ⊥) → (k ≡ 3 → ⊥) → (k ≡ 4 → ⊥) → (k ≡ 5 → ⊥) → (k ≡ 6 → ⊥) → (k ≡ 7 → ⊥) → all_classes ≡ row_class k l r
 unfolding row_class
 other_class zero l r n2 n3 n4 n5 n6 n7 = refl
 other_class (suc zero) l r n2 n3 n4 n5 n6 n7 = refl

@@ -58,7 +58,7 @@ pub form_rows : (t : List ℕ) (i : ℕ) → unpack form_entry (suc i) t ≡ unp
 form_rows t i = unpack_turn form_entry i t ∙ ap (λ (r : Row). unpack form_entry i t ++ (r ∷ [])) (form_row_lem t i)
 
 -- Below the length, what is read past the end does not matter.
-pub get_d_any : (l : List ℕ) (i d e : ℕ) → i < length l → get_or l i d ≡ get_or l i e
+pub get_d_any : {A : Type 0} (l : List A) (i : ℕ) (d e : A) → i < length l → get_or l i d ≡ get_or l i e
 get_d_any [] i d e h = absurd (not-suc-le-zero h)
 get_d_any (x ∷ l) zero d e h = refl
 get_d_any (x ∷ l) (suc i) d e h = get_d_any l i d e (le_of_suc-le-suc h)

@@ -1,131 +1,124 @@
 // The classes of a table's formulas, computed once from the first formula on: a formula's classes follow from those of its parts.
 #![tactic(auto)]
 
-ghost use Rattle.std.specs.Prelude.{◌≡◌, ◌*◌, min, get_or, take};
-ghost use Rattle.scope.specs.Limits.{most_formulas};
-ghost use Rattle.classes.specs.Class.{bit, goal_in, policy_in, clause_in, chunk_in, class_byte, and_class, or_class, imp_class, says_class, row_class, class_table};
+ghost use Rattle.std.specs.Prelude.{◌≡◌};
+ghost use Rattle.classes.specs.Class.{and_class, or_class, imp_class, says_class, row_class, class_table};
+
+use common::{FormKind, MOST_FORMULAS, Row, row_at, value_at};
 
 // How many formulas a table of classes holds.
-pub const FORMULAS: usize = common::MOST_FORMULAS as usize;
+pub const FORMULAS: usize = MOST_FORMULAS as usize;
 
-// A class byte: 1 a goal, 2 a policy line, 4 a clause, 8 a chunk.
-pub fn is_goal(class: u8) -> bool
-    ensures { result ≡ goal_in class }
-{
-    class % 2 == 1
+// Where a formula may stand.
+#[derive(Clone, Copy, PartialEq, Eq)]
+pub struct Class {
+    pub goal: bool,
+    pub policy: bool,
+    pub clause: bool,
+    pub chunk: bool,
 }
 
-pub fn is_policy(class: u8) -> bool
-    ensures { result ≡ policy_in class }
-{
-    class / 2 % 2 == 1
+impl Class {
+    // What stands where no formula does.
+    pub const NONE: Class = Class {
+        goal: false,
+        policy: false,
+        clause: false,
+        chunk: false,
+    };
+
+    // The classes of `top`, and of what is out of range.
+    const ALL: Class = Class {
+        goal: true,
+        policy: true,
+        clause: true,
+        chunk: true,
+    };
 }
 
-fn is_clause(class: u8) -> bool
-    ensures { result ≡ clause_in class }
-{
-    class / 4 % 2 == 1
-}
-
-fn is_chunk(class: u8) -> bool
-    ensures { result ≡ chunk_in class }
-{
-    class / 8 % 2 == 1
-}
-
-fn bit_of(test: bool, value: u8) -> u8
-    ensures { result ≡ value * bit test }
-{
-    if test { value } else { 0 }
-}
-
-fn byte_of(goal: bool, policy: bool, clause: bool, chunk: bool) -> u8
-    ensures { result ≡ class_byte goal policy clause chunk }
-{
-    bit_of(goal, 1) + bit_of(policy, 2) + bit_of(clause, 4) + bit_of(chunk, 8)
-}
-
-fn and_class(left: u8, right: u8) -> u8
+#[tactic(auto, unfolding(crate::specs::Class::and_class, scope::specs::Logic::Form::both))]
+fn and_class(left: Class, right: Class) -> Class
     ensures { result ≡ and_class left right }
 {
-    let goal = common::both_of(is_goal(left), is_goal(right));
-    let clause = common::both_of(is_clause(left), is_clause(right));
-    let chunk = common::both_of(is_chunk(left), is_chunk(right));
-    byte_of(goal, clause, clause, chunk)
+    let clause = left.clause && right.clause;
+    Class {
+        goal: left.goal && right.goal,
+        policy: clause,
+        clause,
+        chunk: left.chunk && right.chunk,
+    }
 }
 
-fn or_class(left: u8, right: u8) -> u8
+#[tactic(auto, unfolding(crate::specs::Class::or_class, scope::specs::Logic::Form::both))]
+fn or_class(left: Class, right: Class) -> Class
     ensures { result ≡ or_class left right }
 {
-    let goal = common::both_of(is_goal(left), is_goal(right));
-    let chunk = common::both_of(is_chunk(left), is_chunk(right));
-    byte_of(goal, false, false, chunk)
+    Class {
+        goal: left.goal && right.goal,
+        chunk: left.chunk && right.chunk,
+        ..Class::NONE
+    }
 }
 
-fn imp_class(left: u8, right: u8) -> u8
+#[tactic(auto, unfolding(crate::specs::Class::imp_class, scope::specs::Logic::Form::both))]
+fn imp_class(left: Class, right: Class) -> Class
     ensures { result ≡ imp_class left right }
 {
-    let goal = common::both_of(is_chunk(left), is_goal(right));
-    let clause = common::both_of(is_goal(left), is_clause(right));
-    byte_of(goal, clause, clause, clause)
+    let goal = left.chunk && right.goal;
+    let clause = left.goal && right.clause;
+    Class {
+        goal,
+        policy: clause,
+        clause,
+        chunk: clause,
+    }
 }
 
-fn says_class(right: u8) -> u8
+#[tactic(auto, unfolding(crate::specs::Class::says_class))]
+fn says_class(right: Class) -> Class
     ensures { result ≡ says_class right }
 {
-    let clause = is_clause(right);
-    byte_of(is_goal(right), clause, clause, clause)
-}
-
-// Kinds are numbered 0 to 7: p, top, bot, and, or, imp, says, sf.
-fn row_class(kind: u16, left: u8, right: u8) -> u8
-    ensures { result ≡ row_class kind left right }
-{
-    match kind {
-        2 => 9,
-        3 => and_class(left, right),
-        4 => or_class(left, right),
-        5 => imp_class(left, right),
-        6 => says_class(right),
-        7 => 11,
-        _ => 15,
+    Class {
+        goal: right.goal,
+        policy: right.clause,
+        clause: right.clause,
+        chunk: right.clause,
     }
 }
 
-// The classes of one of the first `count` formulas, those of `top` for any other.
-fn class_at(classes: &[u8], count: usize, formula: usize) -> u8
-    ensures { result ≡ get_or (take count classes.now) formula 15 }
+// A kind of no number means `top`.
+#[tactic(auto, using(crate::proofs::Named::by_kind))]
+fn row_class(row: Row, left: Class, right: Class) -> Class
+    ensures { result ≡ row_class row.kind left right }
 {
-    if count <= formula {
-        return 15;
+    match FormKind::of(row.kind) {
+        Some(FormKind::Bot) => Class {
+            goal: true,
+            chunk: true,
+            ..Class::NONE
+        },
+        Some(FormKind::And) => and_class(left, right),
+        Some(FormKind::Or) => or_class(left, right),
+        Some(FormKind::Imp) => imp_class(left, right),
+        Some(FormKind::Says) => says_class(right),
+        Some(FormKind::Sf) => Class {
+            clause: false,
+            ..Class::ALL
+        },
+        Some(FormKind::Atom | FormKind::Top) | None => Class::ALL,
     }
-    if classes.len() <= formula {
-        return 15;
-    }
-    classes[formula]
 }
 
-fn at_most(formulas: u16) -> usize
-    ensures { result ≡ min formulas most_formulas }
-{
-    let n = formulas as usize;
-    if n < FORMULAS { n } else { FORMULAS }
-}
-
-pub fn classes_of(forms: &[u16], formulas: u16) -> [u8; FORMULAS]
+pub fn classes_of(forms: &[u16], formulas: u16) -> [Class; FORMULAS]
     ensures { result ≡ class_table forms.now formulas }
 {
-    let count = at_most(formulas);
-    let mut classes = [0u8; FORMULAS];
-    let mut i: usize = 0;
-    while i < count {
-        let at = 3 * i;
-        let kind = common::entry_at(forms, at);
-        let left = class_at(&classes, i, common::entry_at(forms, at + 1) as usize);
-        let right = class_at(&classes, i, common::entry_at(forms, at + 2) as usize);
-        let class = row_class(kind, left, right);
-        classes[i] = class;
-        i += 1;
+    let mut classes = [Class::NONE; FORMULAS];
+    for i in 0..formulas.min(MOST_FORMULAS) {
+        let row = row_at(forms, i);
+        let before = &classes[..usize::from(i)];
+        let left = value_at(before, usize::from(row.left), Class::ALL);
+        let right = value_at(before, usize::from(row.right), Class::ALL);
+        classes[usize::from(i)] = row_class(row, left, right);
     }
     classes
 }
