@@ -1,12 +1,12 @@
 -- The rows hold exactly the closed facts of a sequent. `Kept` says so, `asked_le`, `asked_by` and `asked_sf` say it of each question, and
 -- `kept_back` of rows that a branch has written over.
-use Rattle.std.specs.Prelude.{ℕ, suc, ◌+◌, ◌*◌, ◌-◌, ◌<◌, ◌≤◌, true, ◌≡◌, refl, List, ◌↔◌, length, get_or, replicate}
-use Rattle.std.proofs.Common.{sym, ◌∙◌, ⊎_elim, zero-add, lt-ltb}
+use Rattle.std.specs.Prelude.{ℕ, suc, ◌+◌, ◌*◌, ◌-◌, ◌<◌, ◌≤◌, true, ◌≡◌, refl, List, ◌↔◌, length, get_or}
+use Rattle.std.proofs.Common.{sym, ◌∙◌, ⊎_elim, lt-ltb}
 use native.Mathlib.Omega.{arith}
-use Rattle.std.proofs.lemmas.List.{length-replicate}
 use Rattle.scope.specs.Logic.Facts.{Fact, le, by, sf, Sheet, Closed, given, Among, Named, Basis, basis, closed, least}
 use Rattle.facts.specs.Fill.{fill, length_fill, fill_before, fill_at, below_or_past}
-use Rattle.facts.specs.Rows.{worlds_max, principals_max, rows_each, rows_max, le_at, up_at, by_at, sf_at, bit_of, by_row, sf_row, told, sf_rows, back_row, put_sf, speaks_in}
+use Rattle.facts.specs.Block.{block_length, block_row}
+use Rattle.facts.specs.Rows.{worlds_max, principals_max, rows_each, rows_max, le_at, up_at, by_at, sf_at, bit_of, named_row, by_row, sf_row, told, sf_rows, back_row, put_sf, speaks_in}
 
 -- What each fact of a sheet's worlds and principals is: its numbers are among theirs, and it leads from a world to a newer one.
 abbrev pub Proper : Sheet → Fact → Type 0
@@ -103,17 +103,17 @@ module _ {sh : Sheet} {fs : List Fact} {r : List ℕ} (K : Kept sh fs r) where
 
 -- Of a principal's number the test in its row is true.
 pub by_row_lem : (r : List ℕ) (v a : ℕ) → a < principals_max → by_row r v a ≡ get_or r (by_at v + a) 0
-unfolding by_row
+unfolding named_row
 by_row_lem r v a h = rw (lt-ltb a principals_max h)
 
 pub sf_row_lem : (r : List ℕ) (v a : ℕ) → a < principals_max → sf_row r v a ≡ get_or r (sf_at v + a) 0
-unfolding sf_row
+unfolding named_row
 sf_row_lem r v a h = rw (lt-ltb a principals_max h)
 
 -- What is saved of a branch has one row for each principal.
 pub sf_length : (r : List ℕ) (m : ℕ) → length (sf_rows r m) ≡ principals_max
 unfolding sf_rows
-sf_length r m = length_fill (λ c. get_or r (sf_at m + c) 0) 0 principals_max (replicate principals_max 0)
+sf_length r m = block_length r (sf_at m)
 
 -- Tables whose rows of the first n worlds are the same tell the same facts about those worlds.
 module _ (sh : Sheet) (r s : List ℕ) (few : sh.principals ≤ principals_max)
@@ -176,7 +176,7 @@ pub agree_put : (n m : ℕ) (r s : List ℕ) → n ≤ suc m → Agree n r (put_
 unfolding put_sf
 agree_put n m r s h = agree_fill (back_row r m s) n m r h
 
--- What the stores of the code make of rows r.
+-- Rows that are stored one after the other are put back.
 pub stored_back : (r : List ℕ) (m : ℕ) (s : List ℕ) {at c : ℕ} {x : List ℕ} → at ≡ sf_at m → c ≡ principals_max →
     x ≡ fill (back_row r m s) at c r → x ≡ put_sf r m s
 unfolding put_sf
@@ -185,10 +185,7 @@ stored_back r m s hat hc hx = rw (hc, hat) at hx
 -- What was saved of world m is what stood there.
 pub saved_row : (r : List ℕ) (m c : ℕ) → c < principals_max → get_or (sf_rows r m) c 0 ≡ get_or r (sf_at m + c) 0
 unfolding sf_rows
-saved_row r m c h =
-    rw zero-add at
-    (fill_at (λ i. get_or r (sf_at m + i) 0) 0 principals_max (replicate principals_max 0) c h
-    (rw length-replicate (omega arith)))
+saved_row r m c h = block_row r (sf_at m) c h
 
 pub saved_told : (r : List ℕ) (m c b : ℕ) → c < principals_max → speaks_in (sf_rows r m) c b ≡ told r (sf m c b)
 unfolding told

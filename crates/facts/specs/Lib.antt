@@ -9,3 +9,4 @@ pub mod NewKept
 pub mod Grown
 pub mod Noted
 pub mod Root
+pub mod Block

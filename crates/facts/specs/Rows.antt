@@ -44,23 +44,33 @@ bit_of row i = bit_in worlds_max row i
 abbrev pub one_bit : ℕ → ℕ
 one_bit i = one_in worlds_max i
 
--- The row of S, and the row of sf, of a principal: 0 for a number that no principal has.
-unfoldable pub by_row : List ℕ → ℕ → ℕ → ℕ
-by_row r v a = when (ltb a principals_max) (get_or r (by_at v + a) 0)
+-- The row of a principal, of those that stand from a place on: 0 for a number that no principal has; and so the row of S, and the row of sf.
+unfoldable pub named_row : List ℕ → ℕ → ℕ → ℕ
+named_row r at a = when (ltb a principals_max) (get_or r (at + a) 0)
 
-unfoldable pub sf_row : List ℕ → ℕ → ℕ → ℕ
-sf_row r v a = when (ltb a principals_max) (get_or r (sf_at v + a) 0)
+abbrev pub by_row : List ℕ → ℕ → ℕ → ℕ
+by_row r v a = named_row r (by_at v) a
+
+abbrev pub sf_row : List ℕ → ℕ → ℕ → ℕ
+sf_row r v a = named_row r (sf_at v) a
 
 -- What the rows tell of a fact.
 unfoldable pub told : List ℕ → Fact → Bool
-unfolding by_row sf_row
+unfolding named_row
 told r (le u v) = bit_of (get_or r (le_at v) 0) u
 told r (by a u v) = bit_of (by_row r v a) u
 told r (sf u a b) = bit_of (sf_row r u a) b
 
--- The rows of sf of a world, and a table with such rows put in place of what stands there.
+-- The rows of all principals from a place on, and a table with such rows put in place of what stands there.
+abbrev pub block : List ℕ → ℕ → List ℕ
+block r at = fill (λ c. get_or r (at + c) 0) 0 principals_max (replicate principals_max 0)
+
+abbrev pub put_block : List ℕ → ℕ → List ℕ → List ℕ
+put_block r at s = fill (λ c. get_or s c 0) at principals_max r
+
+-- The rows of sf of a world, and a table with such rows put back.
 unfoldable pub sf_rows : List ℕ → ℕ → List ℕ
-sf_rows r m = fill (λ c. get_or r (sf_at m + c) 0) 0 principals_max (replicate principals_max 0)
+sf_rows r m = block r (sf_at m)
 
 abbrev pub back_row : List ℕ → ℕ → List ℕ → ℕ → ℕ
 back_row r m s c = get_or s c 0

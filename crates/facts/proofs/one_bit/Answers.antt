@@ -3,8 +3,8 @@ use Rattle.facts.specs.Rows.{worlds_max}
 use Rattle.facts.specs.Bits.{one_shifted, one_past}
 use Rattle.facts.proofs.one_bit.Goals as goal
 
-pub returns-then-i-lt-WORLDS : goal.returns-then-i-lt-WORLDS
-returns-then-i-lt-WORLDS c = one_shifted worlds_max _ c.if-i-lt-WORLDS.true
+pub returns-then-i-lt-MOST_WORLDS : goal.returns-then-i-lt-MOST_WORLDS
+returns-then-i-lt-MOST_WORLDS c = one_shifted worlds_max _ c.if-i-lt-MOST_WORLDS.true
 
-pub returns-else-i-lt-WORLDS : goal.returns-else-i-lt-WORLDS
-returns-else-i-lt-WORLDS c = one_past worlds_max _ c.if-i-lt-WORLDS.false
+pub returns-else-i-lt-MOST_WORLDS : goal.returns-else-i-lt-MOST_WORLDS
+returns-else-i-lt-MOST_WORLDS c = one_past worlds_max _ c.if-i-lt-MOST_WORLDS.false
