@@ -1,9 +1,7 @@
 pub mod Parts
-pub mod Items
-pub mod Stop
-pub mod Words
-pub mod Codes
 pub mod Values
+pub mod Stop
 pub mod Answers
 pub mod Operands
+pub mod Items
 pub mod Rows

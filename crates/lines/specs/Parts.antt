@@ -1,18 +1,15 @@
 -- A line by parts of the text: the value after the key, and what follows the LF.
-use Rattle.std.specs.Prelude.{ℕ, zero, suc, ◌+◌, ◌-◌, ◌≤◌, ◌<◌, ◌≡◌, refl, List, [], ◌∷◌, Bool, true, false, cond, eqb, length, take, drop, get_or}
-use Rattle.std.proofs.Math.Nat.{sub-zero, suc-sub-suc}
-use Rattle.std.proofs.Common.{add-one, arith, ap, sym, length-drop, drop_of_length-le, drop-cons, take_all, eq-eqb, ne_eqb}
+use Rattle.std.specs.Prelude.{ℕ, suc, ◌+◌, ◌-◌, ◌≤◌, ◌<◌, ◌≡◌, refl, List, [], ◌∷◌, Bool, true, false, not, ◌&&◌, cond, eqb, ltb, length, take, drop, position, Option as Optional, None, Some}
+use Rattle.std.specs.List.{position_or_len}
+use Rattle.std.specs.Str.{bytes_eq}
+use Rattle.std.proofs.Common.{arith, ap, length-drop, take_all, ltb-true, ltb-false}
 use Rattle.std.proofs.Math.Option.{Option, none, some}
-use Rattle.std.proofs.Math.Seq.{take-nil}
-use Rattle.scope.specs.Logic.Form.{both}
 use Rattle.scope.specs.Call.Answer.{column_for}
 use Rattle.scope.specs.File.Line.{Line, Cut, parts, uncut, cut, cut_after, strip, valued, shaped_as, placed, line_of, line_stop, line}
-use Rattle.scope.specs.File.Kinds.{same}
 
--- How many numbers, bytes of a text or codes of words, stand before the first b: all, where there is none.
-unfoldable pub up_to : ℕ → List ℕ → ℕ
-up_to b [] = 0
-up_to b (c ∷ s) = cond (eqb c b) 0 (suc (up_to b s))
+-- How many bytes of a text stand before the first b: all, where there is none.
+abbrev pub up_to : ℕ → List ℕ → ℕ
+up_to b s = position_or_len (λ c. eqb c b) s
 
 -- What stands after the key in the first line; nothing where there is no such line.
 unfoldable pub value_in : Option (List ℕ) → List ℕ
@@ -56,38 +53,17 @@ unfolding line value_of rest_of
 line_parts l refusal i s e = cut_parts l refusal i (suc (line_stop l s)) (cut 10 s) e
 
 -- The first byte b, met and not met.
-pub up_to_le : (b : ℕ) (s : List ℕ) → up_to b s ≤ length s
-unfolding up_to
-up_to_le b [] = omega arith
-up_to_le b (c ∷ s) = go (eqb c b) (up_to_le b s)
+up_to_cons : (b c : ℕ) (s : List ℕ) → up_to b (c ∷ s) ≡ cond (eqb c b) 0 (suc (up_to b s))
+up_to_cons b c s = go (eqb c b)
   where
-    go : (t : Bool) → up_to b s ≤ length s → cond t 0 (suc (up_to b s)) ≤ suc (length s)
-    go true h = omega arith
-    go false h = omega arith
-
-pub up_to_here : (b c : ℕ) (s : List ℕ) → eqb c b ≡ true → up_to b (c ∷ s) ≡ 0
-unfolding up_to
-up_to_here b c s e = rw e refl
-
-pub up_to_later : (b c : ℕ) (s : List ℕ) → eqb c b ≡ false → up_to b (c ∷ s) ≡ suc (up_to b s)
-unfolding up_to
-up_to_later b c s e = rw e refl
-
--- At a place of the text that byte b is not before.
-pub up_to_stops : (b : ℕ) (s : List ℕ) (i : ℕ) → i < length s → get_or s i 0 ≡ b → up_to b (drop i s) ≡ 0
-up_to_stops b s i h e = rw (drop-cons s i 0) (up_to_here b (get_or s i 0) (drop (suc i) s) (eq-eqb (get_or s i 0) b e))
-
-pub up_to_goes : (b : ℕ) (s : List ℕ) (i : ℕ) → i < length s → (get_or s i 0 ≡ b → ⊥) → up_to b (drop i s) ≡ suc (up_to b (drop (i + 1) s))
-up_to_goes b s i h e = rw (add-one, drop-cons s i 0) (up_to_later b (get_or s i 0) (drop (suc i) s) (ne_eqb (get_or s i 0) b e))
-
-pub up_to_ends : (b : ℕ) (s : List ℕ) (i : ℕ) → length s ≤ i → up_to b (drop i s) ≡ 0
-unfolding up_to
-up_to_ends b s i h = rw (drop_of_length-le s h) refl
+    go : (t : Bool) → cond (not t) (1 + up_to b s) 0 ≡ cond t 0 (suc (up_to b s))
+    go true = refl
+    go false = omega arith
 
 pub cut_found : (b : ℕ) (s : List ℕ) → up_to b s < length s → cut b s ≡ parts (take (up_to b s) s) (drop (suc (up_to b s)) s)
-unfolding up_to cut cut_after
+unfolding cut cut_after
 cut_found b [] h = absurd (omega arith)
-cut_found b (c ∷ s) h = go (eqb c b) (cut_found b s) h
+cut_found b (c ∷ s) h = rw (up_to_cons b c s) (go (eqb c b) (cut_found b s) (rw (up_to_cons b c s) at h))
   where
     go : (t : Bool) → (up_to b s < length s → cut b s ≡ parts (take (up_to b s) s) (drop (suc (up_to b s)) s))
         → cond t 0 (suc (up_to b s)) < suc (length s)
@@ -97,32 +73,38 @@ cut_found b (c ∷ s) h = go (eqb c b) (cut_found b s) h
     go false f h = rw (f (omega arith)) refl
 
 pub cut_none : (b : ℕ) (s : List ℕ) → length s ≤ up_to b s → cut b s ≡ uncut
-unfolding up_to cut cut_after
+unfolding cut cut_after
 cut_none b [] h = refl
-cut_none b (c ∷ s) h = go (eqb c b) (cut_none b s) h
+cut_none b (c ∷ s) h = go (eqb c b) (cut_none b s) (rw (up_to_cons b c s) at h)
   where
     go : (t : Bool) → (length s ≤ up_to b s → cut b s ≡ uncut) → suc (length s) ≤ cond t 0 (suc (up_to b s))
         → cond t (parts [] s) (cut_after c (cut b s)) ≡ uncut
     go true f h = absurd (omega arith)
     go false f h = rw (f (omega arith)) refl
 
+-- The same of the place of that byte.
+abbrev pub cut_at : Optional ℕ → List ℕ → Cut
+cut_at None s = uncut
+cut_at (Some i) s = parts (take i s) (drop (suc i) s)
+
+pub cut_is : (b : ℕ) (s : List ℕ) → cut b s ≡ cut_at (position (λ c. eqb c b) s) s
+cut_is b s = go (ltb (up_to b s) (length s)) refl
+  where
+    go : (t : Bool) → ltb (up_to b s) (length s) ≡ t → cut b s ≡ cut_at (cond t (Some (up_to b s)) None) s
+    go true e = cut_found b s (ltb-true (up_to b s) (length s) e)
+    go false e = cut_none b s (ltb-false (up_to b s) (length s) e)
+
 -- The key, met and not met.
-pub strip_is : (key t : List ℕ) → strip key t ≡ cond (same (take (length key) t) key) (some (drop (length key) t)) none
-unfolding strip same both
+pub strip_is : (key t : List ℕ) → strip key t ≡ cond (bytes_eq (take (length key) t) key) (some (drop (length key) t)) none
+unfolding strip
 strip_is [] t = refl
 strip_is (k ∷ ks) [] = refl
 strip_is (k ∷ ks) (c ∷ t) = go (eqb c k) (strip_is ks t)
   where
-    go : (b : Bool) → strip ks t ≡ cond (same (take (length ks) t) ks) (some (drop (length ks) t)) none
-        → cond b (strip ks t) none ≡ cond (both b (same (take (length ks) t) ks)) (some (drop (length ks) t)) none
+    go : (b : Bool) → strip ks t ≡ cond (bytes_eq (take (length ks) t) ks) (some (drop (length ks) t)) none
+        → cond b (strip ks t) none ≡ cond (b && bytes_eq (take (length ks) t) ks) (some (drop (length ks) t)) none
     go true e = e
     go false e = refl
-
-pub drop_take : (n m : ℕ) (s : List ℕ) → drop n (take m s) ≡ take (m - n) (drop n s)
-drop_take zero m s = rw sub-zero refl
-drop_take (suc n) zero s = let e : 0 - suc n ≡ 0 = omega arith in rw e refl
-drop_take (suc n) (suc m) [] = sym (take-nil (suc m - suc n))
-drop_take (suc n) (suc m) (c ∷ s) = rw suc-sub-suc (drop_take n m s)
 
 -- A part that ends where the text ends.
 pub tail_part : (n : ℕ) (s : List ℕ) → take (length s - n) (drop n s) ≡ drop n s

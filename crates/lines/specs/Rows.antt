@@ -1,142 +1,187 @@
--- A value by the two tables of kinds: the same row from the codes of the words and the counts of operands alone.
-use Prim.Native.Nat.{ℕ, zero, suc, ◌+◌, ◌≤◌, ◌<◌}
-use native.Mathlib.Omega.{arith}
-use Rattle.std.specs.Prelude.{◌≡◌, Bool, ltb, leb, eqb, take, get_or}
-use Rattle.std.proofs.Math.Path.{refl, ap}
-use Rattle.std.proofs.Common.{sym, ◌∙◌, leb-true, ltb-true}
-use mathlib.Core.List.{List, [], ◌∷◌, map}
-use Rattle.std.proofs.Math.Bool.{true, false, cond}
+-- A value by a table of kinds: its word, then its operands, then nothing.
+use Rattle.std.specs.Prelude.{ℕ, zero, suc, ◌≤◌, ◌<◌, ◌≡◌, refl, List, [], ◌∷◌, Bool, true, false, leb, ltb, length, get_or, drop, slice_get, Option as Optional, None, Some}
+use Rattle.std.specs.Option.{is_some}
+use Rattle.std.proofs.Common.{arith, leb-true, ne_eqb, sym, ◌∙◌}
+use Rattle.std.proofs.lemmas.List.{length-map}
 use Rattle.std.proofs.Math.Option.{Option, none, some}
-use Rattle.std.proofs.Math.ListN.{length, get_or-map}
-use Rattle.scope.specs.Tools.Tests.{never}
 use Rattle.scope.specs.Logic.Form.{both}
-use Rattle.scope.specs.File.Kinds.{Kind, kind, kind_in, kind_from, same, items, numbers, kind_row, items_row, row_in, form_kinds, step_kinds}
-use Rattle.lines.specs.Parts.{up_to}
-use Rattle.lines.specs.Words.{code_of, later_items, wanted_row}
-use Rattle.lines.specs.Codes.{AreBytes, bytes_front, same_codes}
-use Rattle.lines.specs.Values.{front_item}
-use Rattle.lines.specs.Answers.{row_answer}
-use Rattle.lines.specs.declared.Row.TheVariants as R
+use Rattle.scope.specs.Tools.Tests.{never, both_true}
+use Rattle.scope.specs.File.Number.{number}
+use Rattle.scope.specs.File.Kinds.{Kind, kind_in, kind_from, items, onto_numbers, numbers, kind_row, items_row, row_in, form_kinds, step_kinds, logic_kinds}
+use Rattle.lines.specs.Answers.{row_answer, kind_answer, kind_some, kind_none}
+use Rattle.common.specs.Kinds.{listed, sort_of}
+use Rattle.common.specs.declared.kinds.Kind.{Kind as Entry}
+use Rattle.lines.specs.Operands.{operand_of}
+use Rattle.lines.specs.Items.{kind_is, kind_within}
+use Rattle.lines.specs.declared.Items.{Items}
 
-abbrev pub codes_of : List Kind → List ℕ
-codes_of ks = map (λ (k : Kind). code_of k.word) ks
-
-abbrev pub operand_count : Kind → ℕ
-operand_count k = length k.operands
-
-abbrev pub counts_of : List Kind → List ℕ
-counts_of ks = map operand_count ks
-
--- A word of at most 7 bytes, and at most two operands.
-unfoldable pub all_bytes : List ℕ → Bool
-unfolding both
-all_bytes [] = true
-all_bytes (b ∷ w) = both (ltb b 256) (all_bytes w)
-
-unfoldable pub is_small : Kind → Bool
-unfolding both all_bytes
-is_small k = both (leb (operand_count k) 2) (both (leb (length k.word) 7) (all_bytes k.word))
-
+-- At most two operands.
 unfoldable pub all_small : List Kind → Bool
-unfolding both is_small
+unfolding both
 all_small [] = true
-all_small (k ∷ ks) = both (is_small k) (all_small ks)
+all_small (k ∷ ks) = both (leb (length k.operands) 2) (all_small ks)
 
-both_left : (a b : Bool) → both a b ≡ true → a ≡ true
-unfolding both
-both_left true b e = refl
-both_left false b e = e
+-- Few kinds of at most two operands.
+unfoldable pub is_small : List Kind → Bool
+unfolding both all_small
+is_small ks = both (leb (length ks) 18) (all_small ks)
 
-both_right : (a b : Bool) → both a b ≡ true → b ≡ true
-unfolding both
-both_right true b e = e
-both_right false b e = never cc
-
-bytes_each : (w : List ℕ) → all_bytes w ≡ true → AreBytes w
-unfolding all_bytes
-bytes_each [] e i = omega arith
-bytes_each (b ∷ w) e zero = ltb-true b 256 (both_left (ltb b 256) (all_bytes w) e)
-bytes_each (b ∷ w) e (suc i) = bytes_each w (both_right (ltb b 256) (all_bytes w) e) i
-
-few_each : (ks : List Kind) → all_small ks ≡ true → (p : ℕ) → operand_count (kind_in ks p) ≤ 2
-unfolding all_small is_small kind_in
-few_each [] e p = omega arith
-few_each (k ∷ ks) e zero = leb-true (operand_count k) 2 (both_left _ _ (both_left (is_small k) (all_small ks) e))
-few_each (k ∷ ks) e (suc p) = few_each ks (both_right (is_small k) (all_small ks) e) p
-
--- The place of a word's code is that of the word.
-word_code : (c : Kind) (w : List ℕ) → is_small c ≡ true → AreBytes w → same c.word w ≡ eqb (code_of c.word) (code_of w)
-unfolding is_small
-word_code c w e f =
-    let r = both_right (leb (operand_count c) 2) (both (leb (length c.word) 7) (all_bytes c.word)) e in
-    sym (same_codes c.word w (bytes_each c.word (both_right (leb (length c.word) 7) (all_bytes c.word) r)) f
-    (leb-true (length c.word) 7 (both_left (leb (length c.word) 7) (all_bytes c.word) r)))
-
-module _ (w : List ℕ) (f : AreBytes w) where
-  kind_found : (ks : List Kind) (k : ℕ) → all_small ks ≡ true → up_to (code_of w) (codes_of ks) < length ks
-      → kind_from k ks w ≡ some (k + up_to (code_of w) (codes_of ks))
-  unfolding up_to kind_from all_small
-  kind_found [] k a h = absurd (omega arith)
-  kind_found (c ∷ cs) k a h =
-      rw (word_code c w (both_left (is_small c) (all_small cs) a) f)
-      (go (eqb (code_of c.word) (code_of w)) h (kind_found cs (suc k) (both_right (is_small c) (all_small cs) a)))
-    where
-      go : (b : Bool) → cond b 0 (suc (up_to (code_of w) (codes_of cs))) < suc (length cs)
-          → (up_to (code_of w) (codes_of cs) < length cs → kind_from (suc k) cs w ≡ some (suc k + up_to (code_of w) (codes_of cs)))
-          → cond b (some k) (kind_from (suc k) cs w) ≡ some (k + cond b 0 (suc (up_to (code_of w) (codes_of cs))))
-      go true h more = let e : k + 0 ≡ k = omega arith in rw e refl
-      go false h more =
-          more (omega arith) ∙ ap some (let e : suc k + up_to (code_of w) (codes_of cs) ≡ k + suc (up_to (code_of w) (codes_of cs)) = omega arith in e)
-
-  kind_none : (ks : List Kind) (k : ℕ) → all_small ks ≡ true → length ks ≤ up_to (code_of w) (codes_of ks) → kind_from k ks w ≡ none
-  unfolding up_to kind_from all_small
-  kind_none [] k a h = refl
-  kind_none (c ∷ cs) k a h =
-      rw (word_code c w (both_left (is_small c) (all_small cs) a) f)
-      (go (eqb (code_of c.word) (code_of w)) h (kind_none cs (suc k) (both_right (is_small c) (all_small cs) a)))
-    where
-      go : (b : Bool) → suc (length cs) ≤ cond b 0 (suc (up_to (code_of w) (codes_of cs)))
-          → (length cs ≤ up_to (code_of w) (codes_of cs) → kind_from (suc k) cs w ≡ none) → cond b (some k) (kind_from (suc k) cs w) ≡ none
-      go true h more = absurd (omega arith)
-      go false h more = more (omega arith)
-
-wanted_is : (ks : List Kind) (k : ℕ) (o : Option (List ℕ)) → wanted_row k (operand_count (kind_in ks k)) o ≡ kind_row ks (some k) o
-unfolding wanted_row kind_row
-wanted_is ks k none = refl
-wanted_is ks k (some ns) = refl
-
-module _ (ks : List Kind) (small : all_small ks ≡ true) where
-  count_is : (k : ℕ) → get_or (counts_of ks) k 0 ≡ operand_count (kind_in ks k)
-  unfolding kind_in
-  count_is k = get_or-map operand_count ks k (kind "" [])
-
-  pub wanted_few : (k : ℕ) → get_or (counts_of ks) k 0 ≤ 2
-  wanted_few k = rw (count_is k) (few_each ks small k)
-
-  -- A value by the place of its word's code, which is a kind's or none.
-  module _ (s : List ℕ) (f : AreBytes s) (e : ℕ) (is : e ≡ up_to 32 s) (c : ℕ) (code : c ≡ code_of (take e s)) (k : ℕ)
-      (place : k ≡ up_to c (codes_of ks)) where
-    by_word : row_in ks s ≡ kind_row ks (kind_from 0 ks (take e s)) (numbers (later_items (items s)))
-    unfolding row_in items_row later_items
-    by_word = rw (front_item s e is) refl
-
-    place_is : up_to (code_of (take e s)) (codes_of ks) ≡ k
-    place_is = rw (← code) (sym place)
-
-    pub row_unknown : length ks ≤ k → R.Bad ≡ row_answer (row_in ks s)
-    unfolding row_answer kind_row
-    row_unknown h = rw (by_word, kind_none (take e s) (bytes_front e s f) ks 0 small (omega (arith, h, place_is))) refl
-
-    pub row_known : k < length ks → row_answer (wanted_row k (get_or (counts_of ks) k 0) (numbers (later_items (items s)))) ≡ row_answer (row_in ks s)
-    row_known h =
-        let found : kind_from 0 ks (take e s) ≡ some k = kind_found (take e s) (bytes_front e s f) ks 0 small (omega (arith, h, place_is)) ∙
-        ap some (let z : 0 + up_to (code_of (take e s)) (codes_of ks) ≡ k = omega (arith, place_is) in z) in
-        rw (by_word, found, count_is k) (ap row_answer (wanted_is ks k (numbers (later_items (items s)))))
-
-pub small_forms : all_small form_kinds ≡ true
-unfolding form_kinds all_small
+pub small_forms : is_small form_kinds ≡ true
+unfolding form_kinds is_small all_small both
 small_forms = refl
 
-pub small_steps : all_small step_kinds ≡ true
-unfolding step_kinds all_small
+pub small_steps : is_small step_kinds ≡ true
+unfolding step_kinds is_small all_small both
 small_steps = refl
+
+pub small_logics : is_small logic_kinds ≡ true
+unfolding logic_kinds is_small all_small both
+small_logics = refl
+
+pub few_kinds : (ks : List Kind) → is_small ks ≡ true → length ks ≤ 18
+unfolding is_small
+few_kinds ks e = leb-true (length ks) 18 (both_true _ _ e).0
+
+few_each : (ks : List Kind) → all_small ks ≡ true → (k : ℕ) → length (kind_in ks k).operands ≤ 2
+unfolding all_small kind_in
+few_each [] e k = omega arith
+few_each (c ∷ cs) e zero = leb-true (length c.operands) 2 (both_true _ _ e).0
+few_each (c ∷ cs) e (suc k) = few_each cs (both_true _ _ e).1 k
+
+pub few_operands : (ks : List Kind) → is_small ks ≡ true → (k : ℕ) → length (kind_in ks k).operands ≤ 2
+unfolding is_small
+few_operands ks e k = few_each ks (both_true _ _ e).1 k
+
+-- Two operands and what is behind them.
+unfoldable pub row_read : ℕ → Optional ℕ → Optional ℕ → Optional (List ℕ) → Optional Items
+row_read k None right more = None
+row_read k (Some l) None more = None
+row_read k (Some l) (Some r) (Some w) = None
+row_read k (Some l) (Some r) None = Some (record { kind = k; left = l; right = r })
+
+-- A kind's operands are as many numbers as it wants.
+module _ (ks : List Kind) (k : ℕ) where
+  kind_read : (n : ℕ) (ws : List (List ℕ)) → n ≤ 2 → length (kind_in ks k).operands ≡ n →
+      row_answer (kind_row ks (some k) (numbers ws)) ≡ row_read k
+      (operand_of (slice_get ws 0) (ltb 0 n)) (operand_of (slice_get (drop 1 ws) 0) (ltb 1 n)) (slice_get (drop 1 (drop 1 ws)) 0)
+  unfolding row_answer kind_row numbers onto_numbers operand_of kind_answer row_read
+  kind_read zero [] h e = rw e refl
+  kind_read zero (x ∷ ws) h e = go (number x) (numbers ws)
+    where
+      go : (a : Option ℕ) (o : Option (List ℕ)) → row_answer (kind_row ks (some k) (onto_numbers a o)) ≡ None
+      go none o = refl
+      go (some a) none = refl
+      go (some a) (some ns) = rw (e, ne_eqb (suc (length ns)) 0 (λ z. omega arith)) refl
+  kind_read (suc zero) [] h e = rw e refl
+  kind_read (suc zero) (x ∷ []) h e = go (number x)
+    where
+      go : (a : Option ℕ) → row_answer (kind_row ks (some k) (onto_numbers a (some []))) ≡ row_read k (kind_answer a) (Some 0) None
+      go none = refl
+      go (some a) = rw e refl
+  kind_read (suc zero) (x ∷ y ∷ ws) h e = go (number x) (number y) (numbers ws)
+    where
+      go : (a b : Option ℕ) (o : Option (List ℕ)) →
+          row_answer (kind_row ks (some k) (onto_numbers a (onto_numbers b o))) ≡ row_read k (kind_answer a) None (slice_get ws 0)
+      go none b o = refl
+      go (some a) none o = refl
+      go (some a) (some b) none = refl
+      go (some a) (some b) (some ns) = rw (e, ne_eqb (suc (suc (length ns))) 1 (λ z. omega arith)) refl
+  kind_read (suc (suc zero)) [] h e = rw e refl
+  kind_read (suc (suc zero)) (x ∷ []) h e = go (number x)
+    where
+      go : (a : Option ℕ) → row_answer (kind_row ks (some k) (onto_numbers a (some []))) ≡ row_read k (kind_answer a) None None
+      go none = refl
+      go (some a) = rw e refl
+  kind_read (suc (suc zero)) (x ∷ y ∷ []) h e = go (number x) (number y)
+    where
+      go : (a b : Option ℕ) →
+          row_answer (kind_row ks (some k) (onto_numbers a (onto_numbers b (some [])))) ≡ row_read k (kind_answer a) (kind_answer b) None
+      go none b = refl
+      go (some a) none = refl
+      go (some a) (some b) = rw e refl
+  kind_read (suc (suc zero)) (x ∷ y ∷ z ∷ ws) h e = go (number x) (number y) (number z) (numbers ws)
+    where
+      go : (a b d : Option ℕ) (o : Option (List ℕ)) →
+          row_answer (kind_row ks (some k) (onto_numbers a (onto_numbers b (onto_numbers d o)))) ≡ row_read k (kind_answer a) (kind_answer b) (Some z)
+      go none b d o = refl
+      go (some a) none d o = refl
+      go (some a) (some b) none o = refl
+      go (some a) (some b) (some d) none = refl
+      go (some a) (some b) (some d) (some ns) = rw (e, ne_eqb (suc (suc (suc (length ns)))) 2 (λ z. omega arith)) refl
+  kind_read (suc (suc (suc n))) ws h e = absurd (omega arith)
+
+-- A value whose word is that of kind k, which wants n operands.
+pub record Word (ks : List Kind) (s : List ℕ) (k n : ℕ) : Type 0 where
+  pub word : List ℕ
+  pub stands : Some word ≡ slice_get (items s) 0
+  pub found : kind_answer (kind_from 0 ks word) ≡ Some k
+  pub few : n ≤ 2
+  pub wants : length (kind_in ks k).operands ≡ n
+
+front : (ws : List (List ℕ)) (w : List ℕ) → Some w ≡ slice_get ws 0 → ws ≡ w ∷ drop 1 ws
+front [] w e = never cc
+front (v ∷ ws) w e = let z : v ≡ w = cc in rw z refl
+
+known : (ks : List Kind) (s : List ℕ) (k n : ℕ) (d : Word ks s k n) (vs ws : List (List ℕ)) → items s ≡ vs → vs ≡ d.word ∷ ws
+    → row_answer (row_in ks s) ≡ row_read k
+    (operand_of (slice_get ws 0) (ltb 0 n)) (operand_of (slice_get (drop 1 ws) 0) (ltb 1 n)) (slice_get (drop 1 (drop 1 ws)) 0)
+unfolding row_in items_row
+known ks s k n d vs ws e f = rw (e, f, kind_some (kind_from 0 ks d.word) k d.found) (kind_read ks k n ws d.few d.wants)
+
+pub row_known : (ks : List Kind) (s : List ℕ) (k n : ℕ) → Word ks s k n → row_answer (row_in ks s) ≡ row_read k
+    (operand_of (slice_get (drop 1 (items s)) 0) (ltb 0 n)) (operand_of (slice_get (drop 1 (drop 1 (items s))) 0) (ltb 1 n))
+    (slice_get (drop 1 (drop 1 (drop 1 (items s)))) 0)
+row_known ks s k n d = known ks s k n d (items s) (drop 1 (items s)) refl (front (items s) d.word d.stands)
+
+pub row_unknown : (ks : List Kind) (s w : List ℕ) → Some w ≡ slice_get (items s) 0 → kind_answer (kind_from 0 ks w) ≡ None → None ≡ row_answer (row_in ks s)
+unfolding row_in items_row kind_row row_answer
+row_unknown ks s w e f = rw (front (items s) w e, kind_none (kind_from 0 ks w) f) refl
+
+-- The same by the table of the code: the ways in which reading a value ends behind its word.
+operands_is : (kinds : List Entry) (k : ℕ) (d : Entry) → k < length kinds
+    → length (kind_in (listed kinds) k).operands ≡ length (get_or kinds k d).operands.now
+unfolding kind_in
+operands_is [] k d h = absurd (omega arith)
+operands_is (c ∷ cs) zero d h = length-map c.operands.now sort_of
+operands_is (c ∷ cs) (suc k) d h = operands_is cs k d (omega arith)
+
+module _ (kinds : List Entry) (small : is_small (listed kinds) ≡ true) (s w : List ℕ) (k : ℕ) (d : Entry)
+    (stands : Some w ≡ slice_get (items s) 0) (found : kind_answer (kind_from 0 (listed kinds) w) ≡ Some k) where
+  abbrev wanted : ℕ
+  wanted = length (get_or kinds k d).operands.now
+
+  row_is : row_answer (row_in (listed kinds) s) ≡ row_read k
+      (operand_of (slice_get (drop 1 (items s)) 0) (ltb 0 wanted)) (operand_of (slice_get (drop 1 (drop 1 (items s))) 0) (ltb 1 wanted))
+      (slice_get (drop 1 (drop 1 (drop 1 (items s)))) 0)
+  row_is =
+      let e : length (kind_in (listed kinds) k).operands ≡ wanted = operands_is kinds k d (kind_within kinds w k (kind_is kinds w ∙ found)) in
+      let f : wanted ≤ 2 = rw (sym e) (few_operands (listed kinds) small k) in
+      row_known (listed kinds) s k wanted (record { word = w; stands = stands; found = found; few = f; wants = e })
+
+  module _ (x : Optional (List ℕ)) (xs : x ≡ slice_get (drop 1 (items s)) 0) where
+    pub left_bad : operand_of x (ltb 0 wanted) ≡ None → None ≡ row_answer (row_in (listed kinds) s)
+    unfolding row_read
+    left_bad e = rw (row_is, sym xs, e) refl
+
+    module _ (l : ℕ) (left : operand_of x (ltb 0 wanted) ≡ Some l) (y : Optional (List ℕ)) (ys : y ≡ slice_get (drop 1 (drop 1 (items s))) 0) where
+      pub right_bad : operand_of y (ltb 1 wanted) ≡ None → None ≡ row_answer (row_in (listed kinds) s)
+      unfolding row_read
+      right_bad e = rw (row_is, sym xs, left, sym ys, e) refl
+
+      module _ (r : ℕ) (right : operand_of y (ltb 1 wanted) ≡ Some r) (z : Optional (List ℕ)) (zs : z ≡ slice_get (drop 1 (drop 1 (drop 1 (items s)))) 0) where
+        pub more_items : is_some z ≡ true → None ≡ row_answer (row_in (listed kinds) s)
+        unfolding row_read
+        more_items e = rw (row_is, sym xs, left, sym ys, right, sym zs) (go z e)
+          where
+            go : (o : Optional (List ℕ)) → is_some o ≡ true → None ≡ row_read k (Some l) (Some r) o
+            go None f = never cc
+            go (Some v) f = refl
+
+        pub no_more : is_some z ≡ false → Some (record { kind = k; left = l; right = r }) ≡ row_answer (row_in (listed kinds) s)
+        unfolding row_read
+        no_more e = rw (row_is, sym xs, left, sym ys, right, sym zs) (go z e)
+          where
+            go : (o : Optional (List ℕ)) → is_some o ≡ false
+                → ◌≡◌ {A = Optional Items} (Some (record { kind = k; left = l; right = r })) (row_read k (Some l) (Some r) o)
+            go None f = refl
+            go (Some v) f = never cc

@@ -1,12 +1,14 @@
 -- Where the text of a number stops being one, at a place that the code has reached.
 use Prim.Native.Nat.{ℕ, suc, ◌+◌, ◌-◌, ◌*◌, ◌≤◌, ◌<◌}
-use Rattle.std.proofs.Common.{zero-add, add-one, le-leb, eq-eqb, ne_eqb}
+use Rattle.std.proofs.Common.{zero-add, add-one, le-leb, leb-true, eq-eqb, ne_eqb}
 use Rattle.std.proofs.Math.Nat.{sub-zero}
 use native.Mathlib.Omega.{arith}
-use Rattle.std.specs.Prelude.{◌≡◌, refl, List, [], ◌∷◌, Bool, true, false, cond, not, leb, eqb, length, drop, get_or}
+use Rattle.std.specs.Prelude.{◌≡◌, refl, List, [], ◌∷◌, Bool, true, false, cond, not, ◌&&◌, leb, eqb, length, drop, get_or}
 use Rattle.std.proofs.Math.Option.{Option, none}
 use Rattle.std.proofs.Math.Seq.{drop-cons}
 use Rattle.std.proofs.lemmas.Bool.{lt-leb}
+use Rattle.std.specs.Char.{is_ascii_digit}
+use Rattle.scope.specs.Tools.Tests.{both_true}
 use Rattle.scope.specs.Logic.Form.{both}
 use Rattle.scope.specs.File.Number.{is_digit, digits, leading_zero, number}
 use Rattle.scope.specs.File.Stops.{most_digits, digits_up_to}
@@ -20,33 +22,18 @@ most_five (b ∷ s) = go (eqb b 48)
     go true = omega arith
     go false = omega arith
 
-pub most_none : (s : List ℕ) → length s ≡ 0 → 0 ≡ most_digits s
-unfolding most_digits
-most_none [] h = refl
-most_none (b ∷ s) h = absurd (omega arith)
-
-pub most_one : (s : List ℕ) → 0 < length s → get_or s 0 0 ≡ 48 → 1 ≡ most_digits s
-unfolding most_digits
-most_one [] h e = absurd (omega arith)
-most_one (b ∷ s) h e = rw (eq-eqb b 48 e) refl
-
-pub most_more : (s : List ℕ) → 0 < length s → (get_or s 0 0 ≡ 48 → ⊥) → 5 ≡ most_digits s
-unfolding most_digits
-most_more [] h e = absurd (omega arith)
-most_more (b ∷ s) h e = rw (ne_eqb b 48 e) refl
-
--- A digit, and the two ways to be none.
-pub digit_is : (b : ℕ) → 48 ≤ b → b ≤ 57 → is_digit b ≡ true
+-- A digit as the library tests it.
+pub digit_same : (b : ℕ) → is_ascii_digit b ≡ is_digit b
 unfolding is_digit both
-digit_is b h k = rw (le-leb 48 b h, le-leb b 57 k) refl
+digit_same b = go (leb 48 b)
+  where
+    go : (t : Bool) → (t && leb b 57) ≡ both t (leb b 57)
+    go true = refl
+    go false = refl
 
-pub digit_low : (b : ℕ) → b < 48 → is_digit b ≡ false
-unfolding is_digit both
-digit_low b h = rw (lt-leb 48 b h) refl
-
-pub digit_high : (b : ℕ) → 57 < b → is_digit b ≡ false
-unfolding is_digit both
-digit_high b h = let e : 48 ≤ b = omega arith in rw (le-leb 48 b e, lt-leb b 57 h) refl
+pub digit_range : (b : ℕ) → is_digit b ≡ true → (48 ≤ b) × (b ≤ 57)
+unfolding is_digit
+digit_range b e = let t = both_true (leb 48 b) (leb b 57) e in (leb-true 48 b t.0, leb-true b 57 t.1)
 
 -- At a place that is reached: one more digit, or none.
 module _ (s : List ℕ) (i : ℕ) (h : i < length s) where

@@ -1,83 +1,56 @@
-use Prim.Native.Nat.{◌+◌, ◌*◌, ◌^◌, ◌≤◌, ◌<◌}
-use native.Mathlib.Nat.{pow-le-pow_right}
-use native.Mathlib.Numerals.{add-one}
-use mathlib.Core.Path.{◌≡◌, refl, ap, sym, ◌∙◌}
-use lib.ListN.{length, get_or}
-use Rattle.lines.specs.Stop.{most_five, digit_is, digit_low, digit_high, digits_goes, counts_on, counts_start}
+use Rattle.std.proofs.Common.{◌≡◌, ◌+◌, ◌*◌, ◌^◌, ◌≤◌, ◌<◌, ap, sym, ◌∙◌, true, false, length, get_or, add-one, arith, eqb-true}
+use Rattle.std.proofs.lemmas.Bool.{eqb-false}
+use Rattle.std.proofs.Math.Nat.{pow-le-pow_right}
+use Rattle.scope.specs.File.Number.{is_digit}
+use Rattle.lines.specs.Stop.{most_five, digit_same, digit_range, digits_goes, counts_on, counts_start}
 use Rattle.lines.specs.Answers.{bad_long, bad_digit, bad_empty, good_number}
-use native.Mathlib.Omega.{arith}
 use Rattle.lines.proofs.read_number.Goals as goal
-
-pub loop-i-init : goal.loop-i-init
-loop-i-init c = (omega arith, omega arith, omega arith, refl, counts_start c.args.text.now c.most_digits-most.result)
+use Rattle.lines.proofs.read_number.Goals.{then-most-i-via-then-most-i, then-most-i-via-else-most-i+then-not-is_ascii_digit}
 
 pub returns-then-most-i : goal.returns-then-most-i
 returns-then-most-i c =
-    bad_long c.args.text.now c.most_digits-most.result
-    c.loop-i.i c.most_digits-most.ensures (omega arith) (omega arith)
-    c.loop-i.invariant.4
-
-pub returns-then-b-lt48 : goal.returns-then-b-lt48
-returns-then-b-lt48 c = let t = c.args.text.now in
+    let t = c.args.text.now in
+    let m = c.most_digits-most.result in
     let i = c.loop-i.i in
-    let h : i < length t = omega arith in
-    bad_digit t c.most_digits-most.result i
-    c.most_digits-most.ensures c.loop-i.value h (omega arith)
-    (digit_low (get_or t i 0) c.if-b-lt48.true) c.loop-i.invariant.3
-    c.loop-i.invariant.4
-
-pub returns-then-b-gt57 : goal.returns-then-b-gt57
-returns-then-b-gt57 c = let t = c.args.text.now in
-    let i = c.loop-i.i in
-    let h : i < length t = omega arith in
-    bad_digit t c.most_digits-most.result i
-    c.most_digits-most.ensures c.loop-i.value h
-    (omega arith) (digit_high (get_or t i 0) c.if-b-gt57.true) c.loop-i.invariant.3
-    c.loop-i.invariant.4
+    elim c.then-most-i.branch [
+      then-most-i-via-then-most-i w ↦ bad_long t m i c.most_digits-most.ensures (omega arith) (omega arith) c.loop-i.invariant.3
+    | then-most-i-via-else-most-i+then-not-is_ascii_digit w ↦
+        bad_digit t m i c.most_digits-most.ensures c.loop-i.value (omega arith) (omega arith)
+        (sym (digit_same (get_or t i 0)) ∙ sym w.is_ascii_digit.ensures.value ∙ w.if-not-is_ascii_digit.true) c.loop-i.invariant.2 c.loop-i.invariant.3
+    ]
 
 pub overflow_mul-value : goal.overflow_mul-value
-overflow_mul-value c = let i = c.loop-i.i in
-    let small : i ≤ 4 = omega (
-      arith,
-      c.most_digits-most.ensures,
-      most_five
-          c.args.text.now,
-    ) in
+overflow_mul-value c =
+    let i = c.loop-i.i in
+    let small : i ≤ 4 = omega (arith, c.most_digits-most.ensures, most_five c.args.text.now) in
     let p : 10 ^ i ≤ 10 ^ 4 = pow-le-pow_right {n = 10} (omega arith) small in
     omega (arith, p)
 
 pub overflow_add-value : goal.overflow_add-value
-overflow_add-value c = let i = c.loop-i.i in
-    let small : i ≤ 4 = omega (
-      arith,
-      c.most_digits-most.ensures,
-      most_five
-          c.args.text.now,
-    ) in
+overflow_add-value c =
+    let i = c.loop-i.i in
+    let small : i ≤ 4 = omega (arith, c.most_digits-most.ensures, most_five c.args.text.now) in
     let p : 10 ^ i ≤ 10 ^ 4 = pow-le-pow_right {n = 10} (omega arith) small in
-    omega (arith, p)
+    omega (arith, p, c.type_inv.text i)
 
 pub loop-i-preserved : goal.loop-i-preserved
-loop-i-preserved c = let t = c.args.text.now in
+loop-i-preserved c =
+    let t = c.args.text.now in
     let i = c.loop-i.i in
-    let v = c.loop-i.value in
-    let m = c.most_digits-most.result in
-    let h : i < length t = omega arith in
-    let d = digit_is (get_or t i 0) (omega arith) (omega arith) in
+    let d : is_digit (get_or t i 0) ≡ true =
+    sym (digit_same (get_or t i 0)) ∙ sym c.is_ascii_digit.ensures.value ∙ c.if-not-is_ascii_digit.false in
     let p : 10 ^ (i + 1) ≡ 10 * 10 ^ i = omega (arith, ap (λ k. 10 ^ k) (add-one i)) in (
       omega arith,
-      omega arith,
-      omega arith,
-      sym (digits_goes t i h v d) ∙ c.loop-i.invariant.3,
-      omega
-          (arith, counts_on t i h m (omega arith) d),
+      omega (arith, digit_range (get_or t i 0) d),
+      rw c.from.ensures (sym (digits_goes t i (omega arith) c.loop-i.value d) ∙ c.loop-i.invariant.2),
+      omega (arith, counts_on t i (omega arith) c.most_digits-most.result (omega arith) d),
     )
 
-pub returns-then-i-eq0 : goal.returns-then-i-eq0
-returns-then-i-eq0 c = bad_empty c.args.text.now (omega arith)
+pub returns-then-is_empty : goal.returns-then-is_empty
+returns-then-is_empty c = bad_empty c.args.text.now (eqb-true _ _ (sym c.is_empty.ensures ∙ c.if-is_empty.true))
 
 pub returns : goal.returns
 returns c =
-    good_number c.args.text.now c.most_digits-most.result
-    c.loop-i.i c.most_digits-most.ensures c.loop-i.value (omega arith)
-    (omega arith) (omega arith) (omega arith) c.loop-i.invariant.3
+    let some = eqb-false _ _ (sym c.is_empty.ensures ∙ c.if-is_empty.false) in
+    good_number c.args.text.now c.most_digits-most.result c.loop-i.i c.most_digits-most.ensures c.loop-i.value (omega (arith, some))
+    (omega arith) (omega arith) (omega arith) c.loop-i.invariant.2

@@ -1,14 +1,10 @@
 -- `lines::rest_of` meets its contract: the part behind the first LF is what the definition cuts off.
-use Rattle.lines.specs.Values.{rest_none, rest_found}
-use native.Mathlib.Omega.{arith}
+use Rattle.std.proofs.Common.{ap, ◌∙◌}
+use Rattle.lines.specs.Values.{rest_is, rest_none}
 use Rattle.lines.proofs.rest_of.Goals as goal
 
-pub returns-then-text-end : goal.returns-then-text-end
-returns-then-text-end c =
-    rest_none c.args.text.now c.find_byte-end.result
-    c.find_byte-end.ensures (omega arith)
+pub returns-in-Some : goal.returns-in-Some
+returns-in-Some c = rest_is c.args.text.now _ _ c.in-Some.ensures
 
-pub returns : goal.returns
-returns c =
-    rest_found c.args.text.now c.find_byte-end.result
-    c.find_byte-end.ensures (omega arith)
+pub returns-in-None : goal.returns-in-None
+returns-in-None c = rest_none c.args.text.now c.in-None.ensures
