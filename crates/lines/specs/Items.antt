@@ -1,5 +1,5 @@
 -- Words and items as the library's searches find them.
-use Rattle.std.specs.Prelude.{ℕ, suc, ◌+◌, ◌≤◌, ◌<◌, ◌≡◌, refl, List, [], ◌∷◌, Bool, true, false, ◌&&◌, not, cond, eqb, ltb, length, drop, position, MatchOption, Option as Optional, None, Some, slice_get}
+use Rattle.std.specs.Prelude.{ℕ, suc, ◌+◌, ◌≤◌, ◌<◌, ◌≡◌, refl, List, [], ◌∷◌, Bool, true, false, ◌&&◌, not, cond, eqb, ltb, length, drop, position, Option as Optional, None, Some, slice_get}
 use Rattle.std.specs.List as std
 use Rattle.std.specs.List.{position_or_len, slice_split}
 use Rattle.std.specs.Str.{bytes_eq}
@@ -9,8 +9,8 @@ use Rattle.std.specs.Slice.Iter.{split_steps, split_rest, split_done, split_call
 use Rattle.std.proofs.lemmas.Iterator.Splits.{YieldsList-from_slice_split}
 use denote.Ref.{Bor}
 use denote.Param.Members.{Mut}
-use Rattle.std.proofs.Common.{arith, ap, sym, ◌∙◌, ltb-true, ltb-false}
-use Rattle.std.proofs.Math.Option.{Option, none, some}
+use Rattle.std.proofs.Common.{arith, ap, ◌∙◌, ltb-true, ltb-false}
+use Rattle.std.proofs.Math.Option.{none, some}
 use Rattle.scope.specs.Logic.Form.{both}
 use Rattle.scope.specs.File.Kinds.{same, kind_from, items, onto_first}
 use Rattle.common.specs.Kinds.{listed}

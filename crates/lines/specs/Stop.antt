@@ -1,6 +1,6 @@
 -- Where the text of a number stops being one, at a place that the code has reached.
 use Prim.Native.Nat.{ℕ, suc, ◌+◌, ◌-◌, ◌*◌, ◌≤◌, ◌<◌}
-use Rattle.std.proofs.Common.{zero-add, add-one, le-leb, leb-true, eq-eqb, ne_eqb}
+use Rattle.std.proofs.Common.{zero-add, add-one, le-leb, leb-true}
 use Rattle.std.proofs.Math.Nat.{sub-zero}
 use native.Mathlib.Omega.{arith}
 use Rattle.std.specs.Prelude.{◌≡◌, refl, List, [], ◌∷◌, Bool, true, false, cond, not, ◌&&◌, leb, eqb, length, drop, get_or}

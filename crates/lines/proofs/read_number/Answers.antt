@@ -1,8 +1,8 @@
-use Rattle.std.proofs.Common.{◌≡◌, ◌+◌, ◌*◌, ◌^◌, ◌≤◌, ◌<◌, ap, sym, ◌∙◌, true, false, length, get_or, add-one, arith, eqb-true}
+use Rattle.std.proofs.Common.{◌≡◌, ◌+◌, ◌*◌, ◌^◌, ◌≤◌, ap, sym, ◌∙◌, true, get_or, add-one, arith, eqb-true}
 use Rattle.std.proofs.lemmas.Bool.{eqb-false}
 use Rattle.std.proofs.Math.Nat.{pow-le-pow_right}
 use Rattle.scope.specs.File.Number.{is_digit}
-use Rattle.lines.specs.Stop.{most_five, digit_same, digit_range, digits_goes, counts_on, counts_start}
+use Rattle.lines.specs.Stop.{most_five, digit_same, digit_range, digits_goes, counts_on}
 use Rattle.lines.specs.Answers.{bad_long, bad_digit, bad_empty, good_number}
 use Rattle.lines.proofs.read_number.Goals as goal
 use Rattle.lines.proofs.read_number.Goals.{then-most-i-via-then-most-i, then-most-i-via-else-most-i+then-not-is_ascii_digit}
@@ -13,10 +13,10 @@ returns-then-most-i c =
     let m = c.most_digits-most.result in
     let i = c.loop-i.i in
     elim c.then-most-i.branch [
-      then-most-i-via-then-most-i w ↦ bad_long t m i c.most_digits-most.ensures (omega arith) (omega arith) c.loop-i.invariant.3
-    | then-most-i-via-else-most-i+then-not-is_ascii_digit w ↦
-        bad_digit t m i c.most_digits-most.ensures c.loop-i.value (omega arith) (omega arith)
-        (sym (digit_same (get_or t i 0)) ∙ sym w.is_ascii_digit.ensures.value ∙ w.if-not-is_ascii_digit.true) c.loop-i.invariant.2 c.loop-i.invariant.3
+      | then-most-i-via-then-most-i w ↦ bad_long t m i c.most_digits-most.ensures (omega arith) (omega arith) c.loop-i.invariant.3
+      | then-most-i-via-else-most-i+then-not-is_ascii_digit w ↦
+          bad_digit t m i c.most_digits-most.ensures c.loop-i.value (omega arith) (omega arith)
+          (sym (digit_same (get_or t i 0)) ∙ sym w.is_ascii_digit.ensures.value ∙ w.if-not-is_ascii_digit.true) c.loop-i.invariant.2 c.loop-i.invariant.3
     ]
 
 pub overflow_mul-value : goal.overflow_mul-value

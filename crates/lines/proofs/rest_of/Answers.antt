@@ -1,5 +1,4 @@
 -- `lines::rest_of` meets its contract: the part behind the first LF is what the definition cuts off.
-use Rattle.std.proofs.Common.{ap, ◌∙◌}
 use Rattle.lines.specs.Values.{rest_is, rest_none}
 use Rattle.lines.proofs.rest_of.Goals as goal
 
