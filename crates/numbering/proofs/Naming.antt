@@ -2,7 +2,7 @@
 use Prim.Native.Nat.{ℕ, suc, ◌+◌, ◌*◌, ◌≤◌, ◌<◌}
 use native.Mathlib.Omega.{arith}
 use Rattle.std.proofs.Math.Numerals.{add-one}
-use Rattle.std.specs.Prelude.{◌≡◌, List, [], ◌∷◌, ◌++◌}
+use Rattle.std.specs.Prelude.{◌≡◌, List, [], ◌∷◌, ◌++◌, Some}
 use Rattle.std.proofs.Math.Path.{refl, ap, sym}
 use Rattle.std.proofs.Common.{◌∙◌}
 use Rattle.std.proofs.Math.Option.{Option, none, some}
@@ -14,7 +14,6 @@ use Rattle.scope.specs.Tools.Tests.{never}
 use Rattle.classes.specs.Rows.{unpack_length}
 use Rattle.numbering.specs.declared.Place.{Place}
 use Rattle.numbering.specs.declared.Place.TheVariants.{Taken, Free}
-use Rattle.numbering.specs.declared.Given.TheVariants.{Number}
 use Rattle.numbering.specs.Equal.{found}
 use Rattle.numbering.specs.Slots.{place_in, number_at, kept_taken}
 use Rattle.numbering.specs.Numbered.{Numbered, numbered_found, numbered_more}
@@ -31,7 +30,7 @@ module _ (t : List ℕ) (n : ℕ) (slots : List ℕ) (w : Numbered t n slots) (r
       let is = given_taken (place_in t slots r) n r t i h in
       let size : length (rows_with (unpack form_entry n t) r) ≡ n = ap length with_some ∙ unpack_length form_entry n t in
       record {
-        given = is.0 ∙ ap Number (same ∙ sym (ap (λ o. number_or o (length (unpack form_entry n t))) f));
+        given = is.0 ∙ ap Some (same ∙ sym (ap (λ o. number_or o (length (unpack form_entry n t))) f));
         rows = ap (λ m. unpack form_entry m (written_at (place_in t slots r) n r t)) size ∙ ap (unpack form_entry n) is.1 ∙ sym with_some;
         keeps = rw (size, is.1, kept_taken (place_in t slots r) i n slots h) w;
       }
@@ -45,7 +44,7 @@ module _ (t : List ℕ) (n : ℕ) (slots : List ℕ) (w : Numbered t n slots) (r
       ap length with_none ∙ length-append (unpack form_entry n t) (r ∷ []) ∙ ap (λ m. m + 1) (unpack_length form_entry n t) ∙ add-one n in
       let put = row_put_lem t n r (omega arith) in
       record {
-        given = is.0 ∙ ap Number (sym (ap (λ o. number_or o (length (unpack form_entry n t))) f ∙ unpack_length form_entry n t));
+        given = is.0 ∙ ap Some (sym (ap (λ o. number_or o (length (unpack form_entry n t))) f ∙ unpack_length form_entry n t));
         rows = ap (λ m. unpack form_entry m (written_at (place_in t slots r) n r t)) size ∙ ap (unpack form_entry (suc n)) is.1 ∙ put ∙ sym with_none;
         keeps = rw (size, is.1) (numbered_more t n slots w r (row_put t n r) less put f);
       }

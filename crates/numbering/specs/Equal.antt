@@ -1,5 +1,5 @@
 -- 'Two equal `form=` lines': which earlier row, if any, is equal to a row. By declaration, and computed.
-use Rattle.std.specs.Prelude.{ℕ, zero, suc, ◌<◌, ◌≡◌, Bool, true, false, cond, List, [], ◌∷◌, eqb, length, get_or, take}
+use Rattle.std.specs.Prelude.{ℕ, zero, suc, ◌<◌, ◌≡◌, Bool, true, false, cond, ◌&&◌, List, [], ◌∷◌, eqb, length, get_or, take}
 use Rattle.std.proofs.Common.{not-suc-le-zero, le_of_suc-le-suc, arith, ap, sym, ◌∙◌, length-take, get_or-take}
 use Rattle.std.proofs.Math.Path.{refl}
 use Rattle.std.proofs.Math.Option.{Option, none, some}
@@ -8,6 +8,8 @@ use Rattle.scope.specs.Logic.Form.{both, either}
 use Rattle.scope.specs.File.Request.{Row}
 use Rattle.scope.specs.File.Refusals.{same_row, is_among}
 use Rattle.scope.specs.Tools.Tests.{both_true, both_met, never}
+use Rattle.common.specs.declared.rows.Row.{Row as Compared}
+use Rattle.common.specs.Rows.{as_row}
 
 pub same_equal : (a b : Row) → same_row a b ≡ true → a ≡ b
 unfolding same_row
@@ -26,6 +28,19 @@ unfolding same_row
 same_itself a =
     both_met (eqb a.kind a.kind) (both (eqb a.left a.left) (eqb a.right a.right)) (eq-eqb a.kind a.kind refl)
     (both_met (eqb a.left a.left) (eqb a.right a.right) (eq-eqb a.left a.left refl) (eq-eqb a.right a.right refl))
+
+both_and : (x y : Bool) → (x && y) ≡ both x y
+unfolding both
+both_and true y = refl
+both_and false y = refl
+
+-- Rows of the code are compared number by number.
+pub rows_equal : (a b : Compared) →
+    (eqb a.kind b.kind && (eqb a.left b.left && eqb a.right b.right)) ≡ same_row (as_row a) (as_row b)
+unfolding same_row
+rows_equal a b =
+    both_and (eqb a.kind b.kind) (eqb a.left b.left && eqb a.right b.right) ∙
+    ap (both (eqb a.kind b.kind)) (both_and (eqb a.left b.left) (eqb a.right b.right))
 
 -- Compared number by number.
 module _ (a b : Row) where

@@ -1,7 +1,7 @@
 -- A table in which equal formulas have one number: a row that is there keeps its number, another becomes the next.
 use Prim.Native.Nat.{ℕ, suc, ◌+◌, ◌*◌, ◌≤◌, ◌<◌}
 use native.Mathlib.Omega.{arith}
-use Rattle.std.specs.Prelude.{◌≡◌, Bool, true, false, List, [], ◌∷◌, ◌++◌, ltb, get_or, set}
+use Rattle.std.specs.Prelude.{◌≡◌, Bool, true, false, List, [], ◌∷◌, ◌++◌, Option as Returned, Some, None, ltb, get_or, set}
 use Rattle.std.proofs.Math.Path.{refl, ap, sym}
 use Rattle.std.proofs.Common.{◌∙◌, ext_get_or, lt-ltb, le-ltb}
 use Rattle.std.proofs.Math.Bool.{cond}
@@ -12,10 +12,10 @@ use Rattle.scope.specs.File.Request.{Row}
 use Rattle.scope.specs.Limits.{most_formulas}
 use Rattle.scope.specs.Call.Tables.{form_entry, unpack}
 use Rattle.classes.specs.Rows.{form_row, form_rows, unpack_length}
+use Rattle.common.specs.declared.rows.Row.{Row as Put}
+use Rattle.common.specs.Rows.{as_row, row_put as put}
 use Rattle.numbering.specs.declared.Place.{Place}
 use Rattle.numbering.specs.declared.Place.TheVariants.{Taken, Free}
-use Rattle.numbering.specs.declared.Given.{Given}
-use Rattle.numbering.specs.declared.Given.TheVariants.{Number, Full}
 use Rattle.numbering.specs.Equal.{no_row, found}
 use Rattle.numbering.specs.Slots.{place_in, kept_at}
 use Rattle.numbering.specs.Numbered.{Numbered, row_at_lem}
@@ -38,9 +38,9 @@ unfolding rows_or
 rows_with rows r = rows_or (found rows r) rows (rows ++ (r ∷ []))
 
 -- What is given, and the table, by the place of a row in the table of n rows.
-unfoldable pub given_at : Place → ℕ → Given
-given_at (Taken j) n = Number j
-given_at (Free s) n = cond (ltb n most_formulas) (Number n) Full
+unfoldable pub given_at : Place → ℕ → Returned ℕ
+given_at (Taken j) n = Some j
+given_at (Free s) n = cond (ltb n most_formulas) (Some n) None
 
 unfoldable pub row_put : List ℕ → ℕ → Row → List ℕ
 row_put t n r = set (set (set t (3 * n) r.kind) (3 * n + 1) r.left) (3 * n + 2) r.right
@@ -51,21 +51,21 @@ written_at (Taken j) n r t = t
 written_at (Free s) n r t = cond (ltb n most_formulas) (row_put t n r) t
 
 module _ (p : Place) (n : ℕ) (r : Row) (t : List ℕ) where
-  pub given_taken : (j : ℕ) → p ≡ Taken j → (given_at p n ≡ Number j) × (written_at p n r t ≡ t)
+  pub given_taken : (j : ℕ) → p ≡ Taken j → (given_at p n ≡ Some j) × (written_at p n r t ≡ t)
   unfolding given_at written_at
   given_taken j e = (ap (λ q. given_at q n) e, ap (λ q. written_at q n r t) e)
 
-  pub given_free : (s : ℕ) → p ≡ Free s → n < most_formulas → (given_at p n ≡ Number n) × (written_at p n r t ≡ row_put t n r)
+  pub given_free : (s : ℕ) → p ≡ Free s → n < most_formulas → (given_at p n ≡ Some n) × (written_at p n r t ≡ row_put t n r)
   unfolding given_at written_at
   given_free s e h = (
-    ap (λ q. given_at q n) e ∙ ap (λ b. cond b (Number n) Full) (lt-ltb n most_formulas h),
+    ap (λ q. given_at q n) e ∙ ap (λ b. cond b (Some n) None) (lt-ltb n most_formulas h),
     ap (λ q. written_at q n r t) e ∙ ap (λ b. cond b (row_put t n r) t) (lt-ltb n most_formulas h),
   )
 
-  pub given_full : (s : ℕ) → p ≡ Free s → most_formulas ≤ n → (given_at p n ≡ Full) × (written_at p n r t ≡ t)
+  pub given_full : (s : ℕ) → p ≡ Free s → most_formulas ≤ n → (given_at p n ≡ None) × (written_at p n r t ≡ t)
   unfolding given_at written_at
   given_full s e h = (
-    ap (λ q. given_at q n) e ∙ ap (λ b. cond b (Number n) Full) (le-ltb n most_formulas h),
+    ap (λ q. given_at q n) e ∙ ap (λ b. cond b (Some n) None) (le-ltb n most_formulas h),
     ap (λ q. written_at q n r t) e ∙ ap (λ b. cond b (row_put t n r) t) (le-ltb n most_formulas h),
   )
 
@@ -74,6 +74,11 @@ pub put_thrice : (t a b c : List ℕ) (n : ℕ) (r : Row) → a ≡ set t (3 * n
 unfolding row_put
 put_thrice t a b c n r x y z =
     z ∙ ap (λ l. set l (3 * n + 2) r.right) (y ∙ ap (λ l. set l (3 * n + 1) r.left) x)
+
+-- The row that the code puts.
+pub put_here : (t : List ℕ) (n : ℕ) (r : Put) → put t n r ≡ row_put t n (as_row r)
+unfolding put row_put
+put_here t n r = refl
 
 -- A row that is put is the next one, and those before it stay.
 module _ (t : List ℕ) (n : ℕ) (r : Row) (room : 3 * n + 3 ≤ length t) where
@@ -129,6 +134,6 @@ written_length (Free s) n r t = go (ltb n most_formulas)
 
 -- What numbering a row does where there is room: its number, the table of the rows with it, and the slots that keep them.
 pub record Named (t : List ℕ) (n : ℕ) (slots : List ℕ) (r : Row) : Type 0 where
-  pub given : given_at (place_in t slots r) n ≡ Number (number_in (unpack form_entry n t) r)
+  pub given : given_at (place_in t slots r) n ≡ Some (number_in (unpack form_entry n t) r)
   pub rows : unpack form_entry (length (rows_with (unpack form_entry n t) r)) (written_at (place_in t slots r) n r t) ≡ rows_with (unpack form_entry n t) r
   pub keeps : Numbered (written_at (place_in t slots r) n r t) (length (rows_with (unpack form_entry n t) r)) (kept_at (place_in t slots r) n slots)

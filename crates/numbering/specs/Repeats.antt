@@ -1,5 +1,5 @@
 -- The first row that repeats an earlier one.
-use Rattle.std.specs.Prelude.{ℕ, zero, suc, ◌≤◌, ◌<◌, ◌≡◌, Bool, true, false, List, ltb, get_or, take, replicate}
+use Rattle.std.specs.Prelude.{ℕ, zero, suc, ◌≤◌, ◌<◌, ◌≡◌, Bool, true, false, List, Option as Returned, Some, None, is_some, ltb, get_or, take, replicate}
 use Rattle.std.proofs.Common.{not-suc-le-zero, arith, ◌∙◌, ltb-true, ltb-false}
 use Rattle.std.proofs.Math.Path.{refl, ap, sym}
 use Rattle.std.proofs.Math.Option.{Option, none, some}
@@ -9,7 +9,6 @@ use Rattle.scope.specs.Limits.{most_formulas}
 use Rattle.scope.specs.Call.Tables.{form_entry, unpack}
 use Rattle.scope.specs.Tools.Tests.{never}
 use Rattle.classes.specs.Rows.{form_row, form_row_lem, unpack_at, unpack_before, unpack_length}
-use Rattle.numbering.specs.declared.Earlier.TheVariants.{At, Nothing}
 use Rattle.numbering.specs.Equal.{no_row, NoRepeat, found, no_repeat}
 use Rattle.numbering.specs.Slots.{most_slots, place_in, earlier_at, earlier_of, earlier_number}
 use Rattle.numbering.specs.Numbered.{Numbered, numbered_none, numbered_found}
@@ -107,17 +106,29 @@ module _ (t : List ℕ) (n i : ℕ) (slots : List ℕ) (p : Passed t n i slots) 
   pub told : earlier_at (place_in t slots (form_row t i)) ≡ earlier_of (found (unpack form_entry i t) (form_row t i))
   told = earlier_number (place_in t slots (form_row t i)) ∙ ap earlier_of (numbered_found t i slots p.keeps (form_row t i))
 
-  pub passed_stops : (j : ℕ) → earlier_at (place_in t slots (form_row t i)) ≡ At j → At i ≡ earlier_of (first_repeat (unpack form_entry n t))
+  pub passed_stops : (j : ℕ) → earlier_at (place_in t slots (form_row t i)) ≡ Some j → Some i ≡ earlier_of (first_repeat (unpack form_entry n t))
   unfolding earlier_of first_repeat
   passed_stops j e = go (found (unpack form_entry i t) (form_row t i)) refl
     where
-      go : (o : Option ℕ) → found (unpack form_entry i t) (form_row t i) ≡ o → At i ≡ earlier_of (first_repeat (unpack form_entry n t))
-      go none f = never (let z : At j ≡ Nothing = sym e ∙ told ∙ ap earlier_of f in cc)
+      go : (o : Option ℕ) → found (unpack form_entry i t) (form_row t i) ≡ o → Some i ≡ earlier_of (first_repeat (unpack form_entry n t))
+      go none f = never (let z : Some j ≡ None = sym e ∙ told ∙ ap earlier_of f in cc)
       go (some k) f =
           let l : i < length (unpack form_entry n t) = rw (unpack_length form_entry n t) h in
           ap earlier_of (sym (repeat_here (unpack form_entry n t) i k p.fresh (about ∙ f) (length (unpack form_entry n t)) l))
 
-pub passed_all : (t : List ℕ) (n i : ℕ) (slots : List ℕ) → Passed t n i slots → n ≤ i → Nothing ≡ earlier_of (first_repeat (unpack form_entry n t))
+  -- As the code asks whether there is one.
+  pub passed_found : is_some (earlier_at (place_in t slots (form_row t i))) ≡ true → Some i ≡ earlier_of (first_repeat (unpack form_entry n t))
+  passed_found = go (earlier_at (place_in t slots (form_row t i))) refl
+    where
+      go : (o : Returned ℕ) → earlier_at (place_in t slots (form_row t i)) ≡ o → is_some o ≡ true → Some i ≡ earlier_of (first_repeat (unpack form_entry n t))
+      go (Some j) e found = passed_stops j e
+      go None e found = never cc
+
+pub none_is : (o : Returned ℕ) → is_some o ≡ false → o ≡ None
+none_is None e = refl
+none_is (Some j) e = never cc
+
+pub passed_all : (t : List ℕ) (n i : ℕ) (slots : List ℕ) → Passed t n i slots → n ≤ i → None ≡ earlier_of (first_repeat (unpack form_entry n t))
 unfolding earlier_of first_repeat
 passed_all t n i slots p h =
     let e : length (unpack form_entry n t) ≡ i = unpack_length form_entry n t ∙ omega (arith, p.most) in

@@ -3,19 +3,31 @@
 -- differ, a bit of its key tells the slot under that row to look at next. Rows that differ have keys that differ in one of 48 bits.
 use Prim.Native.Nat.{ℕ, zero, suc, ◌+◌, ◌-◌, ◌*◌, ◌/◌, ◌%◌, ◌≤◌, ◌<◌}
 use native.Mathlib.Omega.{arith}
-use Rattle.std.specs.Prelude.{◌≡◌, refl, true, false, cond, List, ltb, set}
-use Rattle.std.proofs.Math.Path.{ap}
+use Rattle.std.specs.Prelude.{◌≡◌, refl, Bool, true, false, cond, ◌&&◌, eqb, List, Option as Returned, Some, None, ltb, set}
+use Rattle.std.proofs.Math.Path.{ap, sym}
 use Rattle.std.proofs.Common.{◌∙◌, lt-ltb, le-ltb}
 use Rattle.std.proofs.Math.Option.{Option, none, some}
 use Rattle.std.proofs.Math.ListN.{get_or}
 use Rattle.scope.specs.File.Request.{Row}
 use Rattle.scope.specs.Limits.{most_formulas}
 use Rattle.classes.specs.Rows.{form_row}
+use Rattle.common.specs.declared.rows.Row.{Row as Read}
+use Rattle.common.specs.Rows.{as_row, row_at}
+use Rattle.numbering.specs.Equal.{rows_equal}
 use Rattle.numbering.specs.declared.Place.{Place}
 use Rattle.numbering.specs.declared.Place.TheVariants.{Taken, Free}
-use Rattle.numbering.specs.declared.Earlier.{Earlier}
-use Rattle.numbering.specs.declared.Earlier.TheVariants.{At, Nothing}
 use Rattle.scope.specs.File.Refusals.{same_row}
+
+-- The row that the code reads is the one that stands there.
+pub row_here : (t : List ℕ) (i : ℕ) → as_row (row_at t i) ≡ form_row t i
+unfolding row_at
+row_here t i = refl
+
+-- The code's test of a row against the one that stands there.
+pub kept_same : (t : List ℕ) (i : ℕ) (r : Read) {there : Read} {equal : Bool} → there ≡ row_at t i →
+    equal ≡ (eqb there.kind r.kind && (eqb there.left r.left && eqb there.right r.right)) → same_row (form_row t i) (as_row r) ≡ equal
+kept_same t i r {there = there} read is =
+    ap (λ x. same_row x (as_row r)) (sym (ap as_row read ∙ row_here t i)) ∙ sym (rows_equal there r) ∙ sym is
 
 abbrev pub head_slots : ℕ
 head_slots = 1024
@@ -65,13 +77,14 @@ unfoldable pub number_at : Place → Option ℕ
 number_at (Taken j) = some j
 number_at (Free s) = none
 
-unfoldable pub earlier_at : Place → Earlier
-earlier_at (Taken j) = At j
-earlier_at (Free s) = Nothing
+-- The same as the code returns it.
+unfoldable pub earlier_at : Place → Returned ℕ
+earlier_at (Taken j) = Some j
+earlier_at (Free s) = None
 
-unfoldable pub earlier_of : Option ℕ → Earlier
-earlier_of none = Nothing
-earlier_of (some j) = At j
+unfoldable pub earlier_of : Option ℕ → Returned ℕ
+earlier_of none = None
+earlier_of (some j) = Some j
 
 pub earlier_number : (p : Place) → earlier_at p ≡ earlier_of (number_at p)
 unfolding earlier_at earlier_of number_at

@@ -5,16 +5,15 @@
 ghost use Rattle.std.specs.Prelude.{◌≡◌, min};
 ghost use Rattle.scope.specs.Limits.{most_formulas};
 ghost use Rattle.scope.specs.Call.Tables.{unpack, form_entry};
-ghost use Rattle.refusals.specs.Rows.{row};
-ghost use Rattle.classes.specs.Rows.{form_row};
-ghost use Rattle.scope.specs.File.Refusals.{same_row};
+ghost use Rattle.scope.specs.File.Refusals.{first_of};
+ghost use Rattle.common.specs.Refused.{refusal_in};
+ghost use Rattle.common.specs.Rows.{as_row};
 ghost use Rattle.numbering.specs.Slots.{head_of, key_of, place_in, kept_at, earlier_at, earlier_of};
 ghost use Rattle.numbering.specs.Repeats.{first_repeat};
 ghost use Rattle.numbering.specs.Refused.{repeat_refusal};
-ghost use Rattle.numbering.specs.Given.{given_at, row_put, written_at};
-ghost use Rattle.scope.specs.File.Refusals.{first_of};
+ghost use Rattle.numbering.specs.Given.{given_at, written_at};
 
-use common::MOST_FORMULAS;
+use common::{MOST_FORMULAS, Refusal, Row};
 
 // The slots: the heads, and two under each row.
 const HEADS: usize = 1024;
@@ -31,72 +30,54 @@ pub enum Place {
     Free(usize),
 }
 
-// The number of an earlier row that is equal, if there is one.
-#[derive(Clone, Copy)]
-pub enum Earlier {
-    At(u16),
-    Nothing,
-}
-
-// The number that a row has in a table, or no room for one more.
-#[derive(Clone, Copy)]
-pub enum Given {
-    Number(u16),
-    Full,
-}
-
-fn same_row(forms: &[u16], i: u16, kind: u16, left: u16, right: u16) -> bool
-    ensures { result ≡ same_row (form_row forms.now i) (row kind left right) }
-{
-    let at = 3 * (i as usize);
-    let second = at + 1;
-    let third = at + 2;
-    if common::entry_at(forms, at) != kind {
-        return false;
+impl Place {
+    // The number of the row that is there.
+    #[tactic(auto, unfolding(crate::specs::Slots::earlier_at))]
+    fn number(self) -> Option<u16>
+        ensures { result ≡ earlier_at self }
+    {
+        match self {
+            Place::Taken(j) => Some(j),
+            Place::Free(_) => None,
+        }
     }
-    if common::entry_at(forms, second) != left {
-        return false;
-    }
-    common::entry_at(forms, third) == right
 }
 
-fn head_of(kind: u16, left: u16, right: u16) -> usize
-    ensures { result ≡ head_of (row kind left right) }
+#[tactic(auto, unfolding(crate::specs::Slots::head_of))]
+fn head_of(row: Row) -> usize
+    ensures { result ≡ head_of (as_row row) }
 {
-    let k = kind as usize;
-    let l = left as usize;
-    let r = right as usize;
-    (l * 40503 + r * 30029 + k * 9973) / 64 % HEADS
+    let left = usize::from(row.left);
+    let right = usize::from(row.right);
+    let kind = usize::from(row.kind);
+    (left * 40503 + right * 30029 + kind * 9973) / 64 % HEADS
 }
 
-fn key_of(kind: u16, left: u16, right: u16) -> usize
-    ensures { result ≡ key_of (row kind left right) }
+#[tactic(auto, unfolding(crate::specs::Slots::key_of))]
+fn key_of(row: Row) -> usize
+    ensures { result ≡ key_of (as_row row) }
 {
-    let k = kind as usize;
-    let l = left as usize;
-    let r = right as usize;
-    l + r * 65536 + k * 4294967296
+    usize::from(row.left) + usize::from(row.right) * 65536 + usize::from(row.kind) * 4294967296
 }
 
 // Where a row is among the rows that the slots keep.
-pub fn find_row(forms: &[u16], slots: &[u16; SLOTS], kind: u16, left: u16, right: u16) -> Place
-    ensures { result ≡ place_in forms.now slots.now (row kind left right) }
+pub fn find_row(forms: &[u16], slots: &[u16; SLOTS], row: Row) -> Place
+    ensures { result ≡ place_in forms.now slots.now (as_row row) }
 {
-    let mut key = key_of(kind, left, right);
-    let mut slot = head_of(kind, left, right);
-    let mut turns: usize = TURNS;
-    while 0 < turns {
-        let entry = common::entry_at(slots, slot);
+    let mut key = key_of(row);
+    let mut slot = head_of(row);
+    for turn in 0..TURNS {
+        let entry = common::value_at(slots, slot, 0);
         if entry == 0 {
             return Place::Free(slot);
         }
         let i = entry - 1;
-        if same_row(forms, i, kind, left, right) {
+        let kept = common::row_at(forms, i);
+        if kept == row {
             return Place::Taken(i);
         }
-        slot = HEADS + 2 * (i as usize) + key % 2;
-        key = key / 2;
-        turns -= 1;
+        slot = HEADS + 2 * usize::from(i) + key % 2;
+        key /= 2;
     }
     Place::Free(slot)
 }
@@ -109,130 +90,60 @@ pub fn keep_row(slots: &mut [u16; SLOTS], place: Place, i: u16)
         return;
     };
     if i < MOST_FORMULAS {
-        common::put_entry(slots, slot, i + 1);
-    }
-}
-
-fn earlier_at(place: Place) -> Earlier
-    ensures { result ≡ earlier_at place }
-{
-    match place {
-        Place::Taken(j) => Earlier::At(j),
-        Place::Free(_) => Earlier::Nothing,
+        common::put_at(slots, slot, i + 1);
     }
 }
 
 // Looks for a row, and keeps it as row number i where it is not there.
-pub fn enter_row(
-    forms: &[u16],
-    slots: &mut [u16; SLOTS],
-    i: u16,
-    kind: u16,
-    left: u16,
-    right: u16,
-) -> Earlier
-    ensures value { result ≡ earlier_at (place_in forms.now slots.old (row kind left right)) }
-    ensures slots_after { slots.new ≡ kept_at (place_in forms.now slots.old (row kind left right)) i slots.old }
+pub fn enter_row(forms: &[u16], slots: &mut [u16; SLOTS], i: u16, row: Row) -> Option<u16>
+    ensures value { result ≡ earlier_at (place_in forms.now slots.old (as_row row)) }
+    ensures slots_after { slots.new ≡ kept_at (place_in forms.now slots.old (as_row row)) i slots.old }
 {
-    let place = find_row(forms, slots, kind, left, right);
+    let place = find_row(forms, slots, row);
     keep_row(slots, place, i);
-    earlier_at(place)
+    place.number()
 }
 
-// 15 for a row that is equal to an earlier one.
-fn repeat_refusal(earlier: Earlier) -> u16
-    ensures { result ≡ repeat_refusal earlier }
+// The refusal of a row, and then that of its repeating an earlier one.
+pub fn refusal_with(row: Result<(), Refusal>, earlier: Option<u16>) -> Result<(), Refusal>
+    ensures { refusal_in result ≡ first_of (refusal_in row) (repeat_refusal earlier) }
 {
+    row?;
     match earlier {
-        Earlier::At(_) => 15,
-        Earlier::Nothing => 0,
-    }
-}
-
-// The refusal of a row, 0 where there is none, and then that of its repeating an earlier one.
-pub fn refusal_with(row: u16, earlier: Earlier) -> u16
-    ensures { result ≡ first_of row (repeat_refusal earlier) }
-{
-    let repeated = repeat_refusal(earlier);
-    if row == 0 {
-        return repeated;
-    }
-    row
-}
-
-// The row of formula number i, looked for among the rows before it and kept.
-fn enter_next(forms: &[u16], slots: &mut [u16; SLOTS], i: u16) -> Earlier
-    ensures value { result ≡ earlier_at (place_in forms.now slots.old (form_row forms.now i)) }
-    ensures slots_after { slots.new ≡ kept_at (place_in forms.now slots.old (form_row forms.now i)) i slots.old }
-{
-    let at = 3 * (i as usize);
-    let second = at + 1;
-    let third = at + 2;
-    let kind = common::entry_at(forms, at);
-    let left = common::entry_at(forms, second);
-    let right = common::entry_at(forms, third);
-    enter_row(forms, slots, i, kind, left, right)
-}
-
-fn at_most(count: u16) -> u16
-    ensures { result ≡ min count most_formulas }
-{
-    if count < MOST_FORMULAS {
-        count
-    } else {
-        MOST_FORMULAS
+        Some(_) => Err(Refusal::Repeated),
+        None => Ok(()),
     }
 }
 
 // The first of a table's rows that repeats an earlier one.
-pub fn first_repeat(forms: &[u16], count: u16) -> Earlier
+pub fn first_repeat(forms: &[u16], count: u16) -> Option<u16>
     ensures { result ≡ earlier_of (first_repeat (unpack form_entry (min count most_formulas) forms.now)) }
 {
-    let most = at_most(count);
+    let most = count.min(MOST_FORMULAS);
     let mut slots = [0u16; SLOTS];
-    let mut i: u16 = 0;
-    while i < most {
-        let got = enter_next(forms, &mut slots, i);
-        let Earlier::Nothing = got else {
-            return Earlier::At(i);
-        };
-        i += 1;
-    }
-    Earlier::Nothing
-}
-
-fn put_row(forms: &mut [u16], i: u16, kind: u16, left: u16, right: u16)
-    ensures { forms.new ≡ row_put forms.old i (row kind left right) }
-{
-    let at = 3 * (i as usize);
-    let second = at + 1;
-    let third = at + 2;
-    common::put_entry(forms, at, kind);
-    common::put_entry(forms, second, left);
-    common::put_entry(forms, third, right);
-}
-
-// The number of a row in a table of `count` rows, to which it is added where it is not there.
-pub fn number_row(
-    forms: &mut [u16],
-    slots: &mut [u16; SLOTS],
-    count: u16,
-    kind: u16,
-    left: u16,
-    right: u16,
-) -> Given
-    ensures value { result ≡ given_at (place_in forms.old slots.old (row kind left right)) count }
-    ensures forms_after { forms.new ≡ written_at (place_in forms.old slots.old (row kind left right)) count (row kind left right) forms.old }
-    ensures slots_after { slots.new ≡ kept_at (place_in forms.old slots.old (row kind left right)) count slots.old }
-{
-    let place = find_row(forms, slots, kind, left, right);
-    let Place::Taken(j) = place else {
-        if count < MOST_FORMULAS {
-            put_row(forms, count, kind, left, right);
-            keep_row(slots, place, count);
-            return Given::Number(count);
+    for i in 0..most {
+        let got = enter_row(forms, &mut slots, i, common::row_at(forms, i));
+        if got.is_some() {
+            return Some(i);
         }
-        return Given::Full;
-    };
-    Given::Number(j)
+    }
+    None
+}
+
+// The number of a row in a table of `count` rows, to which it is added where it is not there; none where there is no room for it.
+pub fn number_row(forms: &mut [u16], slots: &mut [u16; SLOTS], count: u16, row: Row) -> Option<u16>
+    ensures value { result ≡ given_at (place_in forms.old slots.old (as_row row)) count }
+    ensures forms_after { forms.new ≡ written_at (place_in forms.old slots.old (as_row row)) count (as_row row) forms.old }
+    ensures slots_after { slots.new ≡ kept_at (place_in forms.old slots.old (as_row row)) count slots.old }
+{
+    let place = find_row(forms, slots, row);
+    if let Place::Taken(j) = place {
+        return Some(j);
+    }
+    if MOST_FORMULAS <= count {
+        return None;
+    }
+    common::put_row(forms, count, row);
+    keep_row(slots, place, count);
+    Some(count)
 }

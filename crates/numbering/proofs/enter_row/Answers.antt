@@ -7,6 +7,6 @@ pub returns : goal.returns
 returns c =
     let a = c.args in
     record {
-      value = c.earlier_at.ensures ∙ ap earlier_at c.find_row-place.ensures;
+      value = c.number.ensures ∙ ap earlier_at c.find_row-place.ensures;
       slots_after = c.keep_row.ensures ∙ ap (λ p. kept_at p a.i a.slots.now) c.find_row-place.ensures;
     }

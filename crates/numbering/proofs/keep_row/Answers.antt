@@ -11,7 +11,7 @@ returns-in_default c =
 pub returns-then-i-lt-MOST_FORMULAS : goal.returns-then-i-lt-MOST_FORMULAS
 returns-then-i-lt-MOST_FORMULAS c =
     let a = c.args in
-    c.put_entry.ensures ∙
+    c.put_at.ensures ∙
     sym
     (kept_free a.place c.in-Free.slot a.i a.slots.now
     c.in-Free.is c.if-i-lt-MOST_FORMULAS.true)
