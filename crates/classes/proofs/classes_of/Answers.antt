@@ -1,4 +1,4 @@
-use Rattle.std.proofs.Common.{arith, ◌≡◌, ◌+◌, ◌*◌, get_or, take, sym}
+use Rattle.std.proofs.Common.{arith, ◌≡◌, ◌+◌, ◌*◌, get_or, take}
 use Rattle.common.specs.Rows.{row_at}
 use Rattle.classes.specs.Class.{all_classes}
 use Rattle.classes.proofs.Filling.{filled_none, filled_more, filled_whole}
