@@ -1,93 +1,70 @@
 // In focus on a clause at u, aiming at an atom at w.
+#![tactic(auto, using(crate::specs::Tests::tests), unfolding(common::specs::Rows::kind_number, crate::specs::Steps::left_step, crate::specs::Steps::right_step, crate::specs::Steps::to_imp, crate::specs::Steps::to_says, crate::specs::Steps::to_step, crate::specs::Steps::hit_step))]
+
 ghost use Rattle.std.specs.Prelude.{◌≡◌};
 ghost use Rattle.moves.specs.Steps.{left_step, right_step, to_imp, to_says, to_step, hit_step};
 
-use crate::{Judged, Move, Row};
-use common::MOST_OPEN;
-use facts::ROWS;
+use crate::judging::Sequent;
+use crate::{Move, demand};
+use common::{FormKind, MOST_OPEN, Refusal, Row};
+use facts::Facts;
 use steps::{Principal, World};
 
-pub(crate) fn left_step(r: Row, u: World) -> Judged
+pub(crate) fn left_step(r: Row, u: World) -> Result<Move, Refusal>
     ensures { result ≡ left_step r u }
 {
-    if r.kind != 3 {
-        return Judged::No(7);
-    }
-    Judged::Fits(Move::Aim(r.left, u))
+    demand(r.is(FormKind::And), Refusal::StepMisfit)?;
+    Ok(Move::Aim(r.left, u))
 }
 
-pub(crate) fn right_step(r: Row, u: World) -> Judged
+pub(crate) fn right_step(r: Row, u: World) -> Result<Move, Refusal>
     ensures { result ≡ right_step r u }
 {
-    if r.kind != 3 {
-        return Judged::No(7);
-    }
-    Judged::Fits(Move::Aim(r.right, u))
+    demand(r.is(FormKind::And), Refusal::StepMisfit)?;
+    Ok(Move::Aim(r.right, u))
 }
 
-fn to_imp(rows: &[facts::Row; ROWS], r: Row, u: World, v: World, worlds: u16, opened: u16) -> Judged
-    ensures { result ≡ to_imp rows.now r u v worlds opened }
+fn to_imp(s: &Sequent, r: Row, u: World, v: World) -> Result<Move, Refusal>
+    ensures { result ≡ to_imp s.now.facts.now.rows r u v s.now.worlds s.now.opened }
 {
-    if v.0 < worlds {
-        let there = facts::has_le(rows, u, v);
-        if there {
-            if MOST_OPEN <= opened {
-                return Judged::No(10);
-            }
-            Judged::Fits(Move::Meet(r.left, r.right, v))
-        } else {
-            Judged::No(9)
-        }
+    demand(v.0 < s.worlds, Refusal::NoSuchNumber)?;
+    demand(s.facts.has_le(u, v), Refusal::FactAbsent)?;
+    demand(s.opened < MOST_OPEN, Refusal::LimitPassed)?;
+    Ok(Move::Meet(r.left, r.right, v))
+}
+
+fn to_says(s: &Sequent, r: Row, u: World, w: World) -> Result<Move, Refusal>
+    ensures { result ≡ to_says s.now.facts.now.rows r u w s.now.worlds }
+{
+    demand(w.0 < s.worlds, Refusal::NoSuchNumber)?;
+    demand(s.facts.has_by(Principal(r.left), u, w), Refusal::FactAbsent)?;
+    Ok(Move::Aim(r.right, w))
+}
+
+pub(crate) fn to_step(s: &Sequent, r: Row, u: World, v: World) -> Result<Move, Refusal>
+    ensures { result ≡ to_step s.now.facts.now.rows r u v s.now.worlds s.now.opened }
+{
+    if r.is(FormKind::Imp) {
+        to_imp(s, r, u, v)
+    } else if r.is(FormKind::Says) {
+        to_says(s, r, u, v)
     } else {
-        Judged::No(8)
+        Err(Refusal::StepMisfit)
     }
-}
-
-fn to_says(rows: &[facts::Row; ROWS], r: Row, u: World, v: World, worlds: u16) -> Judged
-    ensures { result ≡ to_says rows.now r u v worlds }
-{
-    if worlds <= v.0 {
-        return Judged::No(8);
-    }
-    let there = facts::has_by(rows, Principal(r.left), u, v);
-    if there {
-        return Judged::Fits(Move::Aim(r.right, v));
-    }
-    Judged::No(9)
-}
-
-pub(crate) fn to_step(
-    rows: &[facts::Row; ROWS],
-    r: Row,
-    u: World,
-    v: World,
-    worlds: u16,
-    opened: u16,
-) -> Judged
-    ensures { result ≡ to_step rows.now r u v worlds opened }
-{
-    if r.kind == 5 {
-        return to_imp(rows, r, u, v, worlds, opened);
-    }
-    if r.kind == 6 {
-        return to_says(rows, r, u, v, worlds);
-    }
-    Judged::No(7)
 }
 
 // The target's atom by its number: two formulas may be the same atom.
-pub(crate) fn hit_step(rows: &[facts::Row; ROWS], r: Row, u: World, atom: u16, w: World) -> Judged
-    ensures { result ≡ hit_step rows.now r u atom w }
+pub(crate) fn hit_step(
+    facts: &Facts,
+    r: Row,
+    u: World,
+    atom: u16,
+    w: World,
+) -> Result<Move, Refusal>
+    ensures { result ≡ hit_step facts.now.rows r u atom w }
 {
-    if r.kind != 0 {
-        return Judged::No(7);
-    }
-    if r.left != atom {
-        return Judged::No(9);
-    }
-    let there = facts::has_le(rows, u, w);
-    if there {
-        return Judged::Fits(Move::Close);
-    }
-    Judged::No(9)
+    demand(r.is(FormKind::Atom), Refusal::StepMisfit)?;
+    demand(r.left == atom, Refusal::FactAbsent)?;
+    demand(facts.has_le(u, w), Refusal::FactAbsent)?;
+    Ok(Move::Close)
 }

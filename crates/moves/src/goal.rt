@@ -1,97 +1,72 @@
 // Goal at u, no chunks, no focus.
+#![tactic(auto, using(crate::specs::Tests::tests), unfolding(common::specs::Rows::kind_number, crate::specs::Steps::and_step, crate::specs::Steps::or1_step, crate::specs::Steps::or2_step, crate::specs::Steps::imp_step, crate::specs::Steps::says_step, crate::specs::Steps::top_step, crate::specs::Steps::sf_step, crate::specs::Steps::use_step, crate::specs::Steps::if_found))]
+
 ghost use Rattle.std.specs.Prelude.{◌≡◌};
 ghost use Rattle.moves.specs.Steps.{and_step, or1_step, or2_step, imp_step, says_step, top_step, sf_step, use_step};
 
-use crate::{Found, Judged, Move, Row};
-use common::{MOST_OPEN, MOST_WORLDS};
-use facts::ROWS;
+use crate::{Lab, Move, demand};
+use common::{FormKind, MOST_OPEN, MOST_WORLDS, Refusal, Row};
+use facts::Facts;
 use steps::{Principal, World};
 
-pub(crate) fn and_step(r: Row, opened: u16) -> Judged
+pub(crate) fn and_step(r: Row, opened: u16) -> Result<Move, Refusal>
     ensures { result ≡ and_step r opened }
 {
-    if r.kind != 3 {
-        return Judged::No(7);
-    }
-    if MOST_OPEN <= opened {
-        return Judged::No(10);
-    }
-    Judged::Fits(Move::Both(r.left, r.right))
+    demand(r.is(FormKind::And), Refusal::StepMisfit)?;
+    demand(opened < MOST_OPEN, Refusal::LimitPassed)?;
+    Ok(Move::Both(r.left, r.right))
 }
 
-pub(crate) fn or1_step(r: Row) -> Judged
+pub(crate) fn or1_step(r: Row) -> Result<Move, Refusal>
     ensures { result ≡ or1_step r }
 {
-    if r.kind != 4 {
-        return Judged::No(7);
-    }
-    Judged::Fits(Move::Go(r.left))
+    demand(r.is(FormKind::Or), Refusal::StepMisfit)?;
+    Ok(Move::Go(r.left))
 }
 
-pub(crate) fn or2_step(r: Row) -> Judged
+pub(crate) fn or2_step(r: Row) -> Result<Move, Refusal>
     ensures { result ≡ or2_step r }
 {
-    if r.kind != 4 {
-        return Judged::No(7);
-    }
-    Judged::Fits(Move::Go(r.right))
+    demand(r.is(FormKind::Or), Refusal::StepMisfit)?;
+    Ok(Move::Go(r.right))
 }
 
-pub(crate) fn imp_step(r: Row, worlds: u16) -> Judged
+pub(crate) fn imp_step(r: Row, worlds: u16) -> Result<Move, Refusal>
     ensures { result ≡ imp_step r worlds }
 {
-    if r.kind != 5 {
-        return Judged::No(7);
-    }
-    if MOST_WORLDS <= worlds {
-        return Judged::No(10);
-    }
-    Judged::Fits(Move::Less(r.left, r.right))
+    demand(r.is(FormKind::Imp), Refusal::StepMisfit)?;
+    demand(worlds < MOST_WORLDS, Refusal::LimitPassed)?;
+    Ok(Move::Less(r.left, r.right))
 }
 
-pub(crate) fn says_step(r: Row, worlds: u16) -> Judged
+pub(crate) fn says_step(r: Row, worlds: u16) -> Result<Move, Refusal>
     ensures { result ≡ says_step r worlds }
 {
-    if r.kind != 6 {
-        return Judged::No(7);
-    }
-    if MOST_WORLDS <= worlds {
-        return Judged::No(10);
-    }
-    Judged::Fits(Move::Speak(Principal(r.left), r.right))
+    demand(r.is(FormKind::Says), Refusal::StepMisfit)?;
+    demand(worlds < MOST_WORLDS, Refusal::LimitPassed)?;
+    Ok(Move::Speak(Principal(r.left), r.right))
 }
 
-pub(crate) fn top_step(r: Row) -> Judged
+pub(crate) fn top_step(r: Row) -> Result<Move, Refusal>
     ensures { result ≡ top_step r }
 {
-    if r.kind != 1 {
-        return Judged::No(7);
-    }
-    Judged::Fits(Move::Close)
+    demand(r.is(FormKind::Top), Refusal::StepMisfit)?;
+    Ok(Move::Close)
 }
 
-pub(crate) fn sf_step(rows: &[facts::Row; ROWS], r: Row, u: World) -> Judged
-    ensures { result ≡ sf_step rows.now r u }
+pub(crate) fn sf_step(facts: &Facts, r: Row, u: World) -> Result<Move, Refusal>
+    ensures { result ≡ sf_step facts.now.rows r u }
 {
-    if r.kind != 7 {
-        return Judged::No(7);
-    }
-    let there = facts::has_sf(rows, u, Principal(r.left), Principal(r.right));
-    if there {
-        return Judged::Fits(Move::Close);
-    }
-    Judged::No(9)
+    demand(r.is(FormKind::Sf), Refusal::StepMisfit)?;
+    let there = facts.has_sf(u, Principal(r.left), Principal(r.right));
+    demand(there, Refusal::FactAbsent)?;
+    Ok(Move::Close)
 }
 
-pub(crate) fn use_step(r: Row, found: Found) -> Judged
+pub(crate) fn use_step(r: Row, found: Option<Lab>) -> Result<Move, Refusal>
     ensures { result ≡ use_step r found }
 {
-    if r.kind != 0 {
-        return Judged::No(7);
-    }
-    let Found::At(clause) = found else {
-        return Judged::No(8);
-    };
-    let u = clause.at;
-    Judged::Fits(Move::Aim(clause.form, u))
+    demand(r.is(FormKind::Atom), Refusal::StepMisfit)?;
+    let clause = found.ok_or(Refusal::NoSuchNumber)?;
+    Ok(Move::Aim(clause.form, clause.at))
 }

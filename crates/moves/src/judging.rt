@@ -1,194 +1,106 @@
 // A step on the current obligation, by its phase.
-ghost use Rattle.std.specs.Prelude.{◌≡◌};
-ghost use Rattle.moves.specs.Judge.{row_at, find_clause, use_clause, goal_step, focus_step, chunk_step, judge_step};
+#![tactic(auto, using(crate::specs::Tests::tests), unfolding(common::specs::Rows::kind_number, common::specs::Rows::row_at, crate::specs::Judge::find_clause, crate::specs::Judge::use_clause, crate::specs::Judge::on_goal, crate::specs::Judge::goal_step, crate::specs::Judge::on_focus, crate::specs::Judge::focus_step, crate::specs::Judge::on_chunk, crate::specs::Judge::chunk_step, crate::specs::Judge::judge_step))]
 
-use crate::{Found, Judged, Lab, Phase, Row, chunk, focus, goal};
-use common::MOST_CLAUSES;
-use facts::ROWS;
+ghost use Rattle.std.specs.Prelude.{◌≡◌};
+ghost use Rattle.moves.specs.Judge.{forms_of, ats_of, find_clause, goal_step, focus_step, chunk_step, judge_step};
+
+use crate::{Lab, Move, Phase, chunk, focus, goal};
+use common::{FormKind, MOST_CLAUSES, Refusal, row_at, value_at};
+use facts::Facts;
 use steps::{Clause, Step, World};
 
 // The clauses of a sequent by their numbers, policy lines first; one place more, which is never read.
 pub const CLAUSES: usize = MOST_CLAUSES as usize + 1;
 
-pub fn row_at(forms: &[u16], f: u16) -> Row
-    ensures { result ≡ row_at forms.now f }
-{
-    let at = f as usize * 3;
-    let kind = common::entry_at(forms, at);
-    let left = common::entry_at(forms, at + 1);
-    let right = common::entry_at(forms, at + 2);
-    Row {
-        kind: kind,
-        left: left,
-        right: right,
-    }
+// What a step is judged on besides the phase: the formulas, the facts, the clauses with their worlds, and how many worlds, clauses and open
+// obligations there are.
+#[derive(Clone, Copy)]
+pub struct Sequent<'a> {
+    pub forms: &'a [u16],
+    pub facts: &'a Facts,
+    pub clauses: &'a [Lab; CLAUSES],
+    pub worlds: u16,
+    pub count: u16,
+    pub opened: u16,
 }
 
-// An `sf` line is no clause to use.
-fn find_clause(
-    forms: &[u16],
-    clauses: &[u16; CLAUSES],
-    ats: &[u16; CLAUSES],
-    count: u16,
-    n: Clause,
-) -> Found
-    ensures { result ≡ find_clause forms.now clauses.now ats.now count n }
-{
-    if count <= n.0 {
-        return Found::Nothing;
+impl Sequent<'_> {
+    // An `sf` line is no clause to use.
+    fn find_clause(&self, n: Clause) -> Option<Lab>
+        ensures { result ≡ find_clause self.now.forms.now (forms_of self.now.clauses.now) (ats_of self.now.clauses.now) self.now.count n }
+    {
+        if self.count <= n.0 {
+            return None;
+        }
+        let none = Lab {
+            form: 0,
+            at: World(0),
+        };
+        let clauses = self.clauses;
+        let clause = value_at(clauses, usize::from(n.0), none);
+        if row_at(self.forms, clause.form).is(FormKind::Sf) {
+            return None;
+        }
+        Some(clause)
     }
-    let i = n.0 as usize;
-    let f = common::entry_at(clauses, i);
-    let u = common::entry_at(ats, i);
-    let r = row_at(forms, f);
-    if r.kind == 7 {
-        return Found::Nothing;
+
+    fn goal_step(&self, g: Lab, x: Step) -> Result<Move, Refusal>
+        ensures { result ≡ goal_step self.now.forms.now self.now.facts.now.rows (forms_of self.now.clauses.now) (ats_of self.now.clauses.now)
+            g x self.now.worlds self.now.count self.now.opened }
+    {
+        let r = row_at(self.forms, g.form);
+        match x {
+            Step::And => goal::and_step(r, self.opened),
+            Step::Or1 => goal::or1_step(r),
+            Step::Or2 => goal::or2_step(r),
+            Step::Imp => goal::imp_step(r, self.worlds),
+            Step::Says => goal::says_step(r, self.worlds),
+            Step::Top => goal::top_step(r),
+            Step::Sf => goal::sf_step(self.facts, r, g.at),
+            Step::Use(n) => goal::use_step(r, self.find_clause(n)),
+            _ => Err(Refusal::StepMisfit),
+        }
     }
-    Found::At(Lab {
-        form: f,
-        at: World(u),
-    })
-}
 
-fn use_clause(
-    forms: &[u16],
-    clauses: &[u16; CLAUSES],
-    ats: &[u16; CLAUSES],
-    count: u16,
-    r: Row,
-    n: Clause,
-) -> Judged
-    ensures { result ≡ use_clause forms.now clauses.now ats.now count r n }
-{
-    let found = find_clause(forms, clauses, ats, count, n);
-    goal::use_step(r, found)
-}
-
-fn goal_step(
-    forms: &[u16],
-    rows: &[facts::Row; ROWS],
-    clauses: &[u16; CLAUSES],
-    ats: &[u16; CLAUSES],
-    g: Lab,
-    x: Step,
-    worlds: u16,
-    count: u16,
-    opened: u16,
-) -> Judged
-    ensures { result ≡ goal_step forms.now rows.now clauses.now ats.now
-        g x worlds count opened }
-{
-    let f = g.form;
-    let u = g.at;
-    let r = row_at(forms, f);
-    match x {
-        Step::And => goal::and_step(r, opened),
-        Step::Or1 => goal::or1_step(r),
-        Step::Or2 => goal::or2_step(r),
-        Step::Imp => goal::imp_step(r, worlds),
-        Step::Says => goal::says_step(r, worlds),
-        Step::Top => goal::top_step(r),
-        Step::Sf => goal::sf_step(rows, r, u),
-        Step::Use(n) => use_clause(forms, clauses, ats, count, r, n),
-        Step::Left => Judged::No(7),
-        Step::Right => Judged::No(7),
-        Step::To(_) => Judged::No(7),
-        Step::Hit => Judged::No(7),
-        Step::Push => Judged::No(7),
-        Step::Split => Judged::No(7),
-        Step::Case => Judged::No(7),
-        Step::Absurd => Judged::No(7),
-        Step::Drop => Judged::No(7),
-        Step::Note => Judged::No(7),
+    fn focus_step(&self, part: Lab, target: Lab, x: Step) -> Result<Move, Refusal>
+        ensures { result ≡ focus_step self.now.forms.now self.now.facts.now.rows part target x self.now.worlds self.now.opened }
+    {
+        let r = row_at(self.forms, part.form);
+        let aim = row_at(self.forms, target.form);
+        match x {
+            Step::Left => focus::left_step(r, part.at),
+            Step::Right => focus::right_step(r, part.at),
+            Step::To(n) => focus::to_step(self, r, part.at, n),
+            Step::Hit => focus::hit_step(self.facts, r, part.at, aim.left, target.at),
+            _ => Err(Refusal::StepMisfit),
+        }
     }
-}
 
-fn focus_step(
-    forms: &[u16],
-    rows: &[facts::Row; ROWS],
-    part: Lab,
-    target: Lab,
-    x: Step,
-    worlds: u16,
-    opened: u16,
-) -> Judged
-    ensures { result ≡ focus_step forms.now rows.now part target x worlds opened }
-{
-    let f = part.form;
-    let u = part.at;
-    let p = target.form;
-    let w = target.at;
-    let r = row_at(forms, f);
-    let aim = row_at(forms, p);
-    let atom = aim.left;
-    match x {
-        Step::And => Judged::No(7),
-        Step::Or1 => Judged::No(7),
-        Step::Or2 => Judged::No(7),
-        Step::Imp => Judged::No(7),
-        Step::Says => Judged::No(7),
-        Step::Top => Judged::No(7),
-        Step::Sf => Judged::No(7),
-        Step::Use(_) => Judged::No(7),
-        Step::Left => focus::left_step(r, u),
-        Step::Right => focus::right_step(r, u),
-        Step::To(n) => focus::to_step(rows, r, u, n, worlds, opened),
-        Step::Hit => focus::hit_step(rows, r, u, atom, w),
-        Step::Push => Judged::No(7),
-        Step::Split => Judged::No(7),
-        Step::Case => Judged::No(7),
-        Step::Absurd => Judged::No(7),
-        Step::Drop => Judged::No(7),
-        Step::Note => Judged::No(7),
+    // top is the topmost of n chunks.
+    fn chunk_step(&self, top: u16, n: u16, x: Step) -> Result<Move, Refusal>
+        ensures { result ≡ chunk_step self.now.forms.now top n x self.now.count self.now.opened }
+    {
+        let r = row_at(self.forms, top);
+        match x {
+            Step::Push => chunk::push_step(r, self.count),
+            Step::Split => chunk::split_step(r, n),
+            Step::Case => chunk::case_step(r, self.opened),
+            Step::Absurd => chunk::absurd_step(r),
+            Step::Drop => chunk::drop_step(r),
+            Step::Note => chunk::note_step(r),
+            _ => Err(Refusal::StepMisfit),
+        }
     }
-}
 
-// f is the topmost of count chunks.
-fn chunk_step(forms: &[u16], f: u16, count: u16, x: Step, clauses: u16, opened: u16) -> Judged
-    ensures { result ≡ chunk_step forms.now f count x clauses opened }
-{
-    let r = row_at(forms, f);
-    match x {
-        Step::And => Judged::No(7),
-        Step::Or1 => Judged::No(7),
-        Step::Or2 => Judged::No(7),
-        Step::Imp => Judged::No(7),
-        Step::Says => Judged::No(7),
-        Step::Top => Judged::No(7),
-        Step::Sf => Judged::No(7),
-        Step::Use(_) => Judged::No(7),
-        Step::Left => Judged::No(7),
-        Step::Right => Judged::No(7),
-        Step::To(_) => Judged::No(7),
-        Step::Hit => Judged::No(7),
-        Step::Push => chunk::push_step(r, clauses),
-        Step::Split => chunk::split_step(r, count),
-        Step::Case => chunk::case_step(r, opened),
-        Step::Absurd => chunk::absurd_step(r),
-        Step::Drop => chunk::drop_step(r),
-        Step::Note => chunk::note_step(r),
-    }
-}
-
-// The current obligation by its phase, its topmost chunk, its worlds and clauses; opened is the number of open obligations.
-pub fn judge_step(
-    forms: &[u16],
-    rows: &[facts::Row; ROWS],
-    clauses: &[u16; CLAUSES],
-    ats: &[u16; CLAUSES],
-    phase: Phase,
-    top: u16,
-    x: Step,
-    worlds: u16,
-    count: u16,
-    opened: u16,
-) -> Judged
-    ensures { result ≡ judge_step forms.now rows.now clauses.now ats.now
-        phase top x worlds count opened }
-{
-    match phase {
-        Phase::Goal(g) => goal_step(forms, rows, clauses, ats, g, x, worlds, count, opened),
-        Phase::Chunks(_, n) => chunk_step(forms, top, n, x, count, opened),
-        Phase::Focus(part, target) => focus_step(forms, rows, part, target, x, worlds, opened),
+    // The current obligation by its phase and its topmost chunk.
+    pub fn judge_step(&self, phase: Phase, top: u16, x: Step) -> Result<Move, Refusal>
+        ensures { result ≡ judge_step self.now.forms.now self.now.facts.now.rows (forms_of self.now.clauses.now) (ats_of self.now.clauses.now)
+            phase top x self.now.worlds self.now.count self.now.opened }
+    {
+        match phase {
+            Phase::Goal(g) => self.goal_step(g, x),
+            Phase::Chunks(_, n) => self.chunk_step(top, n, x),
+            Phase::Focus(part, target) => self.focus_step(part, target, x),
+        }
     }
 }

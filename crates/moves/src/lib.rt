@@ -1,20 +1,15 @@
 // The eighteen steps, each judged on small values: the phase of the current obligation, the row of its formula, the facts, the counts.
 #![tactic(auto)]
 
+ghost use Rattle.std.specs.Prelude.{◌≡◌, true, false, MatchResult};
+
+use common::Refusal;
 use steps::{Principal, World};
 
 mod chunk;
 mod focus;
 mod goal;
 pub mod judging;
-
-// A row of the formula table.
-#[derive(Clone, Copy)]
-pub struct Row {
-    pub kind: u16,
-    pub left: u16,
-    pub right: u16,
-}
 
 // A formula, by its number, at a world.
 #[derive(Clone, Copy)]
@@ -58,15 +53,9 @@ pub enum Move {
     Case(u16, u16),
 }
 
-#[derive(Clone, Copy)]
-pub enum Judged {
-    Fits(Move),
-    No(u16),
-}
-
-// A clause to use, or none of that number.
-#[derive(Clone, Copy)]
-pub enum Found {
-    At(Lab),
-    Nothing,
+// What a step asks, and the refusal where it is not so.
+pub(crate) fn demand(met: bool, refusal: Refusal) -> Result<(), Refusal>
+    ensures { MatchResult result (λ _. met ≡ true) (λ e. (met ≡ false) × (e ≡ refusal)) }
+{
+    if met { Ok(()) } else { Err(refusal) }
 }
