@@ -1,33 +1,25 @@
--- What the answers of the code say, case by case.
-use Rattle.std.specs.Prelude.{ℕ, suc, ◌+◌, ◌-◌, ◌≡◌, refl, List, length}
+-- What the answers of the code say of the text that was read.
+use Rattle.std.specs.Prelude.{ℕ, suc, ◌*◌, ◌≤◌, ◌≡◌, refl, List, length, replicate, Result, Ok, Err, MatchResult}
+use Rattle.std.specs.Borrow.{Bor}
 use Rattle.scope.specs.Call.Result.{result, refused, result_answer}
 use Rattle.scope.specs.Logic.Facts.{Logic, plain, unit}
-use Rattle.scope.specs.Limits.{extra_lines}
 use Rattle.scope.specs.File.Kinds.{logic_number, logic_of}
 use Rattle.scope.specs.File.Request.{Row, Request}
-use Rattle.scope.specs.File.Line.{Line, Value, val, out, Read, ok, bad, line_stop}
+use Rattle.scope.specs.File.Line.{Value, val, out, Read, ok, bad}
 use Rattle.scope.specs.File.Reader.{Outcome}
-use Rattle.scope.specs.Call.Answer.{Answer, told, answer, column_for}
+use Rattle.scope.specs.Call.Tables.{Entry, table, form_entry, policy_entry, step_entry}
+use Rattle.scope.specs.Call.Answer.{Answer, answer}
 use Rattle.scope.specs.Call.Calls.{no_request, request_in}
 use Rattle.common.specs.Answers.{answer_of, answer_is, answer_back}
+use Rattle.common.specs.Refused.{number_of}
 use Rattle.common.specs.declared.Counts.{Counts}
 use Rattle.common.specs.declared.refused.Answer.{Answer as Returned}
-use Rattle.steps.specs.Steps.{step_from}
+use Rattle.common.specs.declared.refused.Refusal.{Refusal}
+use Rattle.steps.specs.declared.Pair.{Pair}
 use Rattle.reader.specs.Sections.{Told, Counted, Formulas, PolicyRead}
-use Rattle.reader.specs.declared.Reading.{Reading}
-use Rattle.reader.specs.declared.NumberLine.{NumberLine}
-use Rattle.reader.specs.declared.RowLine.{RowLine}
-use Rattle.reader.specs.declared.StepLine.{StepLine}
-use Rattle.reader.specs.declared.Section.{Section}
-use Rattle.reader.specs.declared.Start.{Start}
-use Rattle.reader.specs.declared.Part.{Part}
-
-abbrev pub refusal_is : ℕ → ℕ → Returned
-refusal_is k place = answer_of (answer k place)
-
--- The refusal of a line, in the text that begins there.
-abbrev pub refused_at : {A : Type 0} → Line A → ℕ → ℕ → List ℕ → Answer
-refused_at l k place s = told k place (column_for k (suc (line_stop l s)))
+use Rattle.reader.specs.declared.version_lines.Start.{Start}
+use Rattle.reader.specs.declared.first_lines.Head.{Head}
+use Rattle.reader.specs.declared.policy_lines.Policy.{Policy}
 
 -- What the reader answers: version and logic, the counts and the goal, or the refusal and its place.
 abbrev pub counts_of : Request → Counts
@@ -49,18 +41,18 @@ unfolding logic_of
 logic_back plain = refl
 logic_back unit = refl
 
-unfoldable pub reading_of : Outcome → Reading
-reading_of (result q) = Reading.Read (counts_of q)
-reading_of (refused a) = Reading.Refused (answer_of a)
+unfoldable pub reading_of : Outcome → Result Counts Returned
+reading_of (result q) = Ok (counts_of q)
+reading_of (refused a) = Err (answer_of a)
 
 -- Document 01's number and values for each case: 0 at place 0 with the counts and the goal, or the refusal at its place with zeros.
-unfoldable pub answer_in : Reading → Answer
-answer_in (Reading.Read c) = answer 0 0
-answer_in (Reading.Refused r) = answer_is r
+unfoldable pub answer_in : Result Counts Returned → Answer
+answer_in (Ok c) = answer 0 0
+answer_in (Err r) = answer_is r
 
-unfoldable pub counts_in : Reading → Counts
-counts_in (Reading.Read c) = c
-counts_in (Reading.Refused r) = counts_of no_request
+unfoldable pub counts_in : Result Counts Returned → Counts
+counts_in (Ok c) = c
+counts_in (Err r) = counts_of no_request
 
 pub answers_same : (o : Outcome) → answer_in (reading_of o) ≡ result_answer o
 unfolding answer_in reading_of result_answer
@@ -72,119 +64,88 @@ unfolding counts_in reading_of request_in
 counts_same (result q) = refl
 counts_same (refused z) = refl
 
--- Of one line.
-unfoldable pub number_line_of : Value ℕ → NumberLine
-number_line_of (val n) = NumberLine.Number n
-number_line_of (out k) = NumberLine.Refused k
+-- Of the value of a line, seen as a thing of document 01: the thing, or the number of its refusal.
+abbrev pub said : {A C : Type 0} → (C → A) → Result C Refusal → Value A
+said see (Ok c) = val (see c)
+said see (Err r) = out (number_of r)
 
-unfoldable pub logic_line_of : Value Logic → NumberLine
-logic_line_of (val l) = NumberLine.Number (logic_number l)
-logic_line_of (out k) = NumberLine.Refused k
+abbrev pub same : ℕ → ℕ
+same n = n
 
-unfoldable pub row_line_of : Value Row → RowLine
-row_line_of (val r) = RowLine.Row r.kind r.left r.right
-row_line_of (out k) = RowLine.Refused k
+-- A step takes two of a row's three numbers.
+abbrev pub step_row : Pair → Row
+step_row p = record { kind = p.kind; left = p.number; right = 0 }
 
-unfoldable pub step_line_of : Value Row → StepLine
-step_line_of (val r) = StepLine.Step (step_from r.kind r.left)
-step_line_of (out k) = StepLine.Refused k
+abbrev pub head_of : Head → Counted
+head_of h = record { principals = h.principals; atoms = h.atoms; formulas = h.formulas }
 
--- Of several, in a text of n bytes.
-unfoldable pub section_of : {A : Type 0} → ℕ → Read A → Section
-section_of n (ok a rest) = Section.Read (n - length rest)
-section_of n (bad a) = Section.Refused (answer_of a)
+-- Of a line or more: what was read, and the text behind it; or the refusal.
+abbrev pub Reads : {A C : Type 0} → (C → A) → Read A → Result (C × Bor (List ℕ)) Returned → Type 0
+Reads see r a = MatchResult a (λ p. r ≡ ok (see p.0) p.1.now) (λ z. r ≡ bad (answer_is z))
 
--- The counts up to the end of a part, from those up to its beginning.
-abbrev pub head_counts : Counted → Counts
-head_counts h = record { version = 0; logic = 0; principals = h.principals; atoms = h.atoms; formulas = h.formulas; policy = 0; goal = 0; steps = 0 }
+-- The same where the code has less of the thing than was read.
+pub record Given {A C : Type 0} (told : A → C) (r : Read A) (c : C) (rest : List ℕ) : Type 0 where
+  pub thing : A
+  pub is : r ≡ ok thing rest
+  pub seen : c ≡ told thing
 
-abbrev pub formulas_counts : Formulas → Counts
-formulas_counts f =
-    record { version = 0; logic = 0; principals = f.principals; atoms = f.atoms; formulas = length f.forms; policy = 0; goal = 0; steps = 0 }
+abbrev pub Gives : {A C : Type 0} → (A → C) → Read A → Result (C × Bor (List ℕ)) Returned → Type 0
+Gives told r a = MatchResult a (λ p. Given told r p.0 p.1.now) (λ z. r ≡ bad (answer_is z))
 
-abbrev pub policy_counts : Counts → PolicyRead → Counts
-policy_counts c p =
-    record {
-      version = c.version;
-      logic = c.logic;
-      principals = c.principals;
-      atoms = c.atoms;
-      formulas = c.formulas;
-      policy = length p.policy;
-      goal = p.goal;
-      steps = 0;
-    }
+abbrev pub start_of : Told → Start
+start_of t = record { version = t.version; logic = logic_number t.logic }
 
-abbrev pub steps_counts : Counts → List Row → Counts
-steps_counts c rows =
-    record {
-      version = c.version;
-      logic = c.logic;
-      principals = c.principals;
-      atoms = c.atoms;
-      formulas = c.formulas;
-      policy = c.policy;
-      goal = c.goal;
-      steps = length rows;
-    }
+-- A lent table that is all zero, with room for n numbers.
+pub record Zero (n : ℕ) (t : List ℕ) : Type 0 where
+  pub room : n ≤ length t
+  pub zero : t ≡ replicate (length t) 0
 
--- Of a part, by its counts.
-unfoldable pub part_of : {A : Type 0} → (A → Counts) → ℕ → Read A → Part
-part_of counts n (ok a rest) = Part.Read (counts a) (n - length rest)
-part_of counts n (bad a) = Part.Refused (answer_of a)
+-- Of n lines of one kind, whose things stand in a lent table.
+pub record ManyKept {A : Type 0} (e : Entry A) (n : ℕ) (r : Read (List A)) (rest numbers : List ℕ) : Type 0 where
+  pub things : List A
+  pub is : r ≡ ok things rest
+  pub count : length things ≡ n
+  pub stored : numbers ≡ table e (length numbers) things
 
--- Of the first lines.
-unfoldable pub start_of : ℕ → Read Told → Start
-start_of n (ok h rest) = Start.Read h.version (logic_number h.logic) (n - length rest)
-start_of n (bad a) = Start.Refused (answer_of a)
+abbrev pub ReadsMany : {A : Type 0} → Entry A → ℕ → Read (List A) → Result (Bor (List ℕ)) Returned → List ℕ → Type 0
+ReadsMany e n r a numbers = MatchResult a (λ p. ManyKept e n r p.now numbers) (λ z. r ≡ bad (answer_is z))
 
-abbrev pub start_refused : Start → Returned
-start_refused (Start.Read v l at) = refusal_is 0 0
-start_refused (Start.Refused r) = r
+-- Of a part with a lent table.
+pub record PartKept {A C : Type 0} (told : A → C) (put : A → ℕ → List ℕ) (r : Read A) (c : C) (rest numbers : List ℕ) : Type 0 where
+  pub thing : A
+  pub is : r ≡ ok thing rest
+  pub seen : c ≡ told thing
+  pub stored : numbers ≡ put thing (length numbers)
 
--- What was read behind the first lines, told with version and logic; and where it is a refusal, its place.
-unfoldable pub told_with : ℕ → ℕ → Reading → Reading
-told_with version logic (Reading.Read c) =
-    Reading.Read
-    record {
-      version = version;
-      logic = logic;
-      principals = c.principals;
-      atoms = c.atoms;
-      formulas = c.formulas;
-      policy = c.policy;
-      goal = c.goal;
-      steps = c.steps;
-    }
-told_with version logic (Reading.Refused r) =
-    Reading.Refused record { refusal = r.refusal; place = r.place + extra_lines version; column = r.column }
+abbrev pub ReadsPart : {A C : Type 0} → (A → C) → (A → ℕ → List ℕ) → Read A → Result (C × Bor (List ℕ)) Returned → List ℕ → Type 0
+ReadsPart told put r a numbers = MatchResult a (λ p. PartKept told put r p.0 p.1.now numbers) (λ z. r ≡ bad (answer_is z))
 
-unfoldable pub place_of : Reading → ℕ
-place_of (Reading.Read c) = 0
-place_of (Reading.Refused r) = r.place
+abbrev pub formulas_of : Formulas → Head
+formulas_of f = record { principals = f.principals; atoms = f.atoms; formulas = length f.forms }
 
--- The refusal in an answer; none where the answer is no refusal.
-abbrev pub number_refusal : NumberLine → ℕ
-number_refusal (NumberLine.Number n) = 0
-number_refusal (NumberLine.Refused k) = k
+abbrev pub forms_of : Formulas → ℕ → List ℕ
+forms_of f len = table form_entry len f.forms
 
-abbrev pub row_refused : RowLine → ℕ
-row_refused (RowLine.Row k l r) = 0
-row_refused (RowLine.Refused k) = k
+abbrev pub policy_of : PolicyRead → Policy
+policy_of p = record { clauses = length p.policy; goal = p.goal }
 
-abbrev pub step_refused : StepLine → ℕ
-step_refused (StepLine.Step x) = 0
-step_refused (StepLine.Refused k) = k
+abbrev pub lines_of : PolicyRead → ℕ → List ℕ
+lines_of p len = table policy_entry len p.policy
 
-abbrev pub section_refused : Section → Returned
-section_refused (Section.Read at) = refusal_is 0 0
-section_refused (Section.Refused r) = r
+abbrev pub count_of : List Row → ℕ
+count_of rows = length rows
 
-abbrev pub part_refused : Part → Returned
-part_refused (Part.Read c at) = refusal_is 0 0
-part_refused (Part.Refused r) = r
+abbrev pub rows_of : List Row → ℕ → List ℕ
+rows_of rows len = table step_entry len rows
 
--- The count of formulas in an answer.
-abbrev pub formula_count : Part → ℕ
-formula_count (Part.Read c at) = c.formulas
-formula_count (Part.Refused r) = 0
+-- Of a whole text: the counts of its request, which stands in the lent tables; or the refusal.
+pub record Kept (o : Outcome) (c : Counts) (forms policy steps : List ℕ) : Type 0 where
+  pub request : Request
+  pub is : o ≡ result request
+  pub counted : c ≡ counts_of request
+  pub forms_stored : forms ≡ table form_entry (length forms) request.forms
+  pub policy_stored : policy ≡ table policy_entry (length policy) request.policy
+  pub steps_stored : steps ≡ table step_entry (length steps) request.steps
+
+abbrev pub Answers : Outcome → Result Counts Returned → List ℕ → List ℕ → List ℕ → Type 0
+Answers o a forms policy steps = MatchResult a (λ c. Kept o c forms policy steps) (λ z. o ≡ refused (answer_is z))

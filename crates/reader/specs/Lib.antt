@@ -1,6 +1,5 @@
 pub mod Sections
 pub mod Answers
-pub mod Columns
 pub mod Lines
 pub mod Many
 pub mod Stored
@@ -8,7 +7,7 @@ pub mod Whole
 pub mod Turns
 pub mod NewRows
 pub mod FormTurns
-pub mod Got
+pub mod LineTurns
 pub mod Joins
 pub mod Outcomes
 pub mod Starts

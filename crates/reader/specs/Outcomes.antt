@@ -1,37 +1,28 @@
 -- The outcome of a whole file from the answers about its sections, and of a call from the outcome of the file.
-use Rattle.std.specs.Prelude.{ℕ, ◌*◌, ◌≤◌, ◌<◌, ◌≡◌, Bool, true, false, length, replicate, leb}
-use Rattle.std.proofs.Common.{arith, sym, ◌∙◌}
+use Rattle.std.specs.Prelude.{ℕ, ◌*◌, ◌≤◌, ◌<◌, ◌≡◌, Bool, true, false, List, [], ◌∷◌, length, replicate, leb, Ok, Err}
+use Rattle.std.proofs.Common.{arith, sym, ◌∙◌, leb-true, le-leb}
+use Rattle.std.proofs.lemmas.Bool.{lt-leb}
+use Rattle.std.proofs.lemmas.List.{length-replicate}
 use Rattle.std.proofs.Math.Path.{refl, ap}
-use mathlib.Core.List.{List, [], ◌∷◌}
-use borrow.Author.Tests.{leb-true, le-leb, lt-leb}
 use Rattle.scope.specs.Call.Result.{result, refused}
 use Rattle.scope.specs.Call.Answer.{Answer, answer}
 use Rattle.scope.specs.Tools.Tests.{never}
 use Rattle.scope.specs.Logic.Form.{both}
 use Rattle.scope.specs.File.Request.{Row, Request}
-use Rattle.scope.specs.File.Line.{Read, ok, bad, and_then, ◌>>=◌}
+use Rattle.scope.specs.File.Line.{ok, bad, and_then, ◌>>=◌}
 use Rattle.scope.specs.Limits.{most_bytes, most_formulas, most_policy_lines, most_steps, end_at}
 use Rattle.scope.specs.File.Reader.{Outcome, read_request}
 use Rattle.scope.specs.Call.Tables.{form_entry, policy_entry, step_entry, table, unpack, has_room}
 use Rattle.scope.specs.Call.Calls.{reading, request_in, form_table_after, policy_table_after, step_table_after}
-use Rattle.common.specs.Answers.{answer_of, answer_is, answer_back}
+use Rattle.reader.specs.Sections.{Formulas, PolicyRead, formulas_part, policy_part, steps_part}
+use Rattle.common.specs.Answers.{answer_of}
 use Rattle.common.specs.declared.Counts.{Counts}
 use Rattle.common.specs.declared.refused.Answer.{Answer as Returned}
-use Rattle.reader.specs.Sections.{Formulas, PolicyRead, formulas_part, policy_part, steps_part}
-use Rattle.reader.specs.Answers.{counts_of, reading_of, formulas_counts, policy_counts, steps_counts, part_of}
-use Rattle.reader.specs.Many.{tail_length}
+use Rattle.reader.specs.Answers.{counts_of, reading_of, PartKept, formulas_of, forms_of, policy_of, lines_of, count_of, rows_of, Zero, Kept}
 use Rattle.reader.specs.Stored.{table_none, unpack_table}
-use Rattle.reader.specs.Whole.{request_with, body_ended, body_request, sections, body_sections, formulas_ends, policy_ends, steps_ends}
-use Rattle.reader.specs.Got.{part_from, part_is, PartGot, part_got, part_lost}
-use Rattle.reader.specs.declared.Reading.TheVariants as Reading
-use Rattle.reader.specs.declared.Part.TheVariants as Part
-
--- Refused or read, an outcome is one of the two.
-outcome_never : {X : Type 0} (o : Outcome) (z : Answer) (q : Request) → o ≡ refused z → o ≡ result q → X
-outcome_never o z q e f = never cc
-
-same_request : (o : Outcome) (p q : Request) → o ≡ result p → o ≡ result q → p ≡ q
-same_request o p q e f = cc
+use Rattle.reader.specs.declared.first_lines.Head.{Head}
+use Rattle.reader.specs.declared.policy_lines.Policy.{Policy}
+use Rattle.reader.specs.Whole.{request_with, body_ended, body_request, sections, body_sections}
 
 module _ (t : List ℕ) where
   read_refused : (z : Answer) → sections t ≡ bad z → body_request t ≡ refused z
@@ -49,203 +40,104 @@ module _ (t : List ℕ) where
   read_whole q [] e h = rw (body_sections t, e) refl
   read_whole q (b ∷ v) e h = absurd (omega arith)
 
-  file_at_formulas : (z : Answer) → formulas_part t ≡ bad z → sections t ≡ bad z
+  stops_formulas : (z : Answer) → formulas_part t ≡ bad z → sections t ≡ bad z
   unfolding sections ◌>>=◌ and_then
-  file_at_formulas z a = rw a refl
+  stops_formulas z a = rw a refl
+
+  -- The first refusal is the answer.
+  pub file_at_formulas : (z : Answer) → formulas_part t ≡ bad z → body_request t ≡ refused z
+  file_at_formulas z a = read_refused z (stops_formulas z a)
 
   module _ (f : Formulas) (s : List ℕ) (a : formulas_part t ≡ ok f s) where
-    file_at_policy : (z : Answer) → policy_part f.forms s ≡ bad z → sections t ≡ bad z
+    stops_policy : (z : Answer) → policy_part f.forms s ≡ bad z → sections t ≡ bad z
     unfolding sections ◌>>=◌ and_then
-    file_at_policy z b = rw a (rw b refl)
+    stops_policy z b = rw a (rw b refl)
+
+    pub file_at_policy : (z : Answer) → policy_part f.forms s ≡ bad z → body_request t ≡ refused z
+    file_at_policy z b = read_refused z (stops_policy z b)
 
     module _ (p : PolicyRead) (u : List ℕ) (b : policy_part f.forms s ≡ ok p u) where
-      file_at_steps : (z : Answer) → steps_part (length f.forms) (length p.policy) u ≡ bad z → sections t ≡ bad z
+      stops_steps : (z : Answer) → steps_part (length f.forms) (length p.policy) u ≡ bad z → sections t ≡ bad z
       unfolding sections ◌>>=◌ and_then
-      file_at_steps z c = rw a (rw b (rw c refl))
+      stops_steps z c = rw a (rw b (rw c refl))
 
-      file_whole : (rows : List Row) (v : List ℕ) → steps_part (length f.forms) (length p.policy) u ≡ ok rows v → sections t ≡ ok
-          (request_with f p rows) v
-      unfolding sections ◌>>=◌ and_then
-      file_whole rows v c = rw a (rw b (rw c refl))
+      pub file_at_steps : (z : Answer) → steps_part (length f.forms) (length p.policy) u ≡ bad z → body_request t ≡ refused z
+      file_at_steps z c = read_refused z (stops_steps z c)
 
-  pub formulas_end : (x : Returned) → part_of formulas_counts (length t) (formulas_part t) ≡ Part.Refused x → body_request t ≡ refused (answer_is x)
-  formulas_end x e =
-      read_refused (answer_is x) (file_at_formulas (answer_is x) (part_lost formulas_counts (length t) (formulas_part t) x e))
+      module _ (rows : List Row) (v : List ℕ) (c : steps_part (length f.forms) (length p.policy) u ≡ ok rows v) where
+        all_lines : sections t ≡ ok (request_with f p rows) v
+        unfolding sections ◌>>=◌ and_then
+        all_lines = rw a (rw b (rw c refl))
 
--- The formulas, the policy and the steps of a text as the calls that read them left them: the counts, where the next begins, and the table.
-pub record FormulasKept (t : List ℕ) : Type 0 where
-  pub counts : Counts
-  pub at : ℕ
-  pub is : part_of formulas_counts (length t) (formulas_part t) ≡ Part.Read counts at
-  pub numbers : List ℕ
-  pub len : ℕ
-  pub stored : (f : Formulas) (rest : List ℕ) → formulas_part t ≡ ok f rest → numbers ≡ table form_entry len f.forms
+        pub file_over : 0 < length v → body_request t ≡ refused (answer 6 (end_at (length f.forms) (length p.policy) (length rows)))
+        file_over h = read_over (request_with f p rows) v all_lines h
 
--- The text behind the formulas, and what the policy reads of it by the formulas in the table.
-abbrev pub behind_formulas : {t : List ℕ} → FormulasKept t → List ℕ
-behind_formulas {t} k = part_from k.at t
+        pub file_whole : length v ≡ 0 → body_request t ≡ result (request_with f p rows)
+        file_whole h = read_whole (request_with f p rows) v all_lines h
 
-abbrev pub policy_read : {t : List ℕ} → FormulasKept t → Read PolicyRead
-policy_read k = policy_part (unpack form_entry k.counts.formulas k.numbers) (behind_formulas k)
+-- The same of a file whose parts the code has read.
+module _ (t : List ℕ) (head : Head) (s forms : List ℕ) (f : PartKept formulas_of forms_of (formulas_part t) head s forms) where
+  many_forms : head.formulas ≡ length f.thing.forms
+  many_forms = ap (λ (h : Head). h.formulas) f.seen
 
-pub record PolicyKept {t : List ℕ} (k : FormulasKept t) : Type 0 where
-  pub counts : Counts
-  pub at : ℕ
-  pub is : part_of (policy_counts k.counts) (length (behind_formulas k)) (policy_read k) ≡ Part.Read counts at
-  pub numbers : List ℕ
-  pub len : ℕ
-  pub stored : (p : PolicyRead) (rest : List ℕ) → policy_read k ≡ ok p rest → numbers ≡ table policy_entry len p.policy
+  rows_are : unpack form_entry head.formulas forms ≡ f.thing.forms
+  rows_are = ap (unpack form_entry head.formulas) f.stored ∙ unpack_table (length forms) f.thing.forms head.formulas many_forms
 
-abbrev pub behind_policy : {t : List ℕ} {k : FormulasKept t} → PolicyKept k → List ℕ
-behind_policy {t} {k} p = part_from p.at (behind_formulas k)
+  policy_is : policy_part (unpack form_entry head.formulas forms) s ≡ policy_part f.thing.forms s
+  policy_is = ap (λ rows. policy_part rows s) rows_are
 
-abbrev pub steps_read : {t : List ℕ} {k : FormulasKept t} → PolicyKept k → Read (List Row)
-steps_read {t} {k} p = steps_part p.counts.formulas p.counts.policy (behind_policy p)
+  pub body_at_policy : (z : Answer) → policy_part (unpack form_entry head.formulas forms) s ≡ bad z → body_request t ≡ refused z
+  body_at_policy z e = file_at_policy t f.thing s f.is z (sym policy_is ∙ e)
 
-pub record StepsKept {t : List ℕ} {k : FormulasKept t} (p : PolicyKept k) : Type 0 where
-  pub counts : Counts
-  pub at : ℕ
-  pub is : part_of (steps_counts p.counts) (length (behind_policy p)) (steps_read p) ≡ Part.Read counts at
-  pub numbers : List ℕ
-  pub len : ℕ
-  pub stored : (rows : List Row) (rest : List ℕ) → steps_read p ≡ ok rows rest → numbers ≡ table step_entry len rows
+  module _ (lines : Policy) (u policy : List ℕ)
+      (p : PartKept policy_of lines_of (policy_part (unpack form_entry head.formulas forms) s) lines u policy) where
+    many_lines : lines.clauses ≡ length p.thing.policy
+    many_lines = ap (λ (l : Policy). l.clauses) p.seen
 
-module _ {t : List ℕ} (k : FormulasKept t) where
-  -- The formulas, and the text behind them.
-  fg : PartGot formulas_counts (length t) (formulas_part t) k.counts k.at
-  fg = part_got formulas_counts (length t) (formulas_part t) k.counts k.at k.is
+    steps_is : steps_part head.formulas lines.clauses u ≡ steps_part (length f.thing.forms) (length p.thing.policy) u
+    steps_is = λ i. steps_part (many_forms i) (many_lines i) u
 
-  second : behind_formulas k ≡ fg.rest
-  second = part_is formulas_part formulas_ends t fg.thing fg.rest k.at fg.is fg.place
+    pub body_at_steps : (z : Answer) → steps_part head.formulas lines.clauses u ≡ bad z → body_request t ≡ refused z
+    body_at_steps z e = file_at_steps t f.thing s f.is p.thing u (sym policy_is ∙ p.is) z (sym steps_is ∙ e)
 
-  pub formulas_place : k.at ≤ length t
-  formulas_place = omega (arith, fg.place)
+    module _ (count : ℕ) (v steps : List ℕ) (r : PartKept count_of rows_of (steps_part head.formulas lines.clauses u) count v steps) where
+      pub body_over : 0 < length v → body_request t ≡ refused (answer 6 (end_at head.formulas lines.clauses count))
+      body_over h =
+          file_over t f.thing s f.is p.thing u (sym policy_is ∙ p.is) r.thing v (sym steps_is ∙ r.is) h ∙
+          (λ i. refused (answer 6 (end_at (sym many_forms i) (sym many_lines i) (sym r.seen i))))
 
-  many_forms : k.counts.formulas ≡ length fg.thing.forms
-  many_forms = ap (λ (c : Counts). c.formulas) fg.counted
+      pub body_kept : length v ≡ 0 →
+          Kept (body_request t)
+          record { version = 0; logic = 0; principals = head.principals; atoms = head.atoms; formulas = head.formulas; policy = lines.clauses; goal = lines.goal; steps = count }
+          forms policy steps
+      body_kept h =
+          record {
+            request = request_with f.thing p.thing r.thing;
+            is = file_whole t f.thing s f.is p.thing u (sym policy_is ∙ p.is) r.thing v (sym steps_is ∙ r.is) h;
+            counted =
+                λ i. record {
+                  version = 0;
+                  logic = 0;
+                  principals = (f.seen i).principals;
+                  atoms = (f.seen i).atoms;
+                  formulas = (f.seen i).formulas;
+                  policy = (p.seen i).clauses;
+                  goal = (p.seen i).goal;
+                  steps = r.seen i;
+                };
+            forms_stored = f.stored;
+            policy_stored = p.stored;
+            steps_stored = r.stored;
+          }
 
-  rows_are : unpack form_entry k.counts.formulas k.numbers ≡ fg.thing.forms
-  rows_are =
-      ap (λ l. unpack form_entry k.counts.formulas l) (k.stored fg.thing fg.rest fg.is) ∙
-      unpack_table k.len fg.thing.forms k.counts.formulas many_forms
-
-  same_policy : policy_read k ≡ policy_part fg.thing.forms fg.rest
-  same_policy = λ i. policy_part (rows_are i) (second i)
-
-  pub policy_end : (x : Returned) → part_of (policy_counts k.counts) (length (behind_formulas k)) (policy_read k) ≡ Part.Refused x → body_request t
-      ≡ refused (answer_is x)
-  policy_end x d =
-      read_refused t (answer_is x)
-      (file_at_policy t fg.thing fg.rest fg.is (answer_is x)
-      (sym same_policy ∙ part_lost (policy_counts k.counts) (length (behind_formulas k)) (policy_read k) x d))
-
-  module _ (p : PolicyKept k) where
-    -- The policy and the goal, and the text behind them.
-    pg : PartGot (policy_counts k.counts) (length (behind_formulas k)) (policy_read k) p.counts p.at
-    pg = part_got (policy_counts k.counts) (length (behind_formulas k)) (policy_read k) p.counts p.at p.is
-
-    third : behind_policy p ≡ pg.rest
-    third = part_is (policy_part (unpack form_entry k.counts.formulas k.numbers))
-        (policy_ends (unpack form_entry k.counts.formulas k.numbers))
-        (behind_formulas k) pg.thing pg.rest p.at pg.is pg.place
-
-    pub policy_place : p.at ≤ length (behind_formulas k)
-    policy_place = omega (arith, pg.place)
-
-    -- The counts up to the steps.
-    counted : p.counts ≡ policy_counts (formulas_counts fg.thing) pg.thing
-    counted = pg.counted ∙ ap (λ c. policy_counts c pg.thing) fg.counted
-
-    same_steps : steps_read p ≡ steps_part (length fg.thing.forms) (length pg.thing.policy) pg.rest
-    same_steps = λ i. steps_part (counted i).formulas (counted i).policy (third i)
-
-    pub steps_end : (x : Returned) → part_of (steps_counts p.counts) (length (behind_policy p)) (steps_read p) ≡ Part.Refused x → body_request t
-        ≡ refused (answer_is x)
-    steps_end x h =
-        read_refused t (answer_is x)
-        (file_at_steps t fg.thing fg.rest fg.is pg.thing pg.rest (sym same_policy ∙ pg.is) (answer_is x)
-        (sym same_steps ∙ part_lost (steps_counts p.counts) (length (behind_policy p)) (steps_read p) x h))
-
-    module _ (s : StepsKept p) where
-      -- The steps, and whether anything follows.
-      sg : PartGot (steps_counts p.counts) (length (behind_policy p)) (steps_read p) s.counts s.at
-      sg = part_got (steps_counts p.counts) (length (behind_policy p)) (steps_read p) s.counts s.at s.is
-
-      abbrev joined : Request
-      joined = request_with fg.thing pg.thing sg.thing
-
-      all_lines : sections t ≡ ok joined sg.rest
-      all_lines = file_whole t fg.thing fg.rest fg.is pg.thing pg.rest (sym same_policy ∙ pg.is) sg.thing sg.rest
-          (sym same_steps ∙ sg.is)
-
-      over_short : length sg.rest ≤ length (behind_policy p)
-      over_short = tail_length sg.rest (behind_policy p)
-          ((steps_ends p.counts.formulas p.counts.policy).ends (behind_policy p) sg.thing sg.rest sg.is)
-
-      all_counted : s.counts ≡ counts_of joined
-      all_counted = sg.counted ∙ ap (λ c. steps_counts c sg.thing) counted
-
-      pub bytes_after : s.at < length (behind_policy p) → body_request t
-          ≡ refused (answer 6 (end_at s.counts.formulas s.counts.policy s.counts.steps))
-      bytes_after l =
-          read_over t joined sg.rest all_lines (omega (arith, sg.place)) ∙
-          sym (λ i. refused (answer 6 (end_at (all_counted i).formulas (all_counted i).policy (all_counted i).steps)))
-
-      counts_are : Reading.Read s.counts ≡ reading_of (result joined)
-      unfolding reading_of
-      counts_are = ap Reading.Read all_counted
-
-      -- The answer, and the three tables, of a text that ends with its steps.
-      pub all_read : length (behind_policy p) ≤ s.at → (Reading.Read s.counts ≡ reading_of (body_request t)) ×
-          (((q : Request) → body_request t ≡ result q → k.numbers ≡ table form_entry k.len q.forms) ×
-          (((q : Request) → body_request t ≡ result q → p.numbers ≡ table policy_entry p.len q.policy) ×
-          ((q : Request) → body_request t ≡ result q → s.numbers ≡ table step_entry s.len q.steps)))
-      all_read l =
-          let o = read_whole t joined sg.rest all_lines (omega (arith, sg.place, over_short)) in (
-            counts_are ∙ ap reading_of (sym o),
-            (
-              (λ q z. k.stored fg.thing fg.rest fg.is ∙ ap (λ u. table form_entry k.len u.forms)
-                  (same_request (body_request t) joined q o z)),
-              (
-                (λ q z. p.stored pg.thing pg.rest pg.is ∙ ap (λ u. table policy_entry p.len u.policy)
-                    (same_request (body_request t) joined q o z)),
-                (λ q z. s.stored sg.thing sg.rest sg.is ∙ ap (λ u. table step_entry s.len u.steps)
-                    (same_request (body_request t) joined q o z)),
-              ),
-            ),
-          )
-
-pub refused_answer : (o : Outcome) (x : Returned) → o ≡ refused (answer_is x) → Reading.Refused x ≡ reading_of o
+-- What is answered of an outcome.
+pub refused_reading : (o : Outcome) (z : Answer) (x : Returned) → o ≡ refused z → x ≡ answer_of z → Err x ≡ reading_of o
 unfolding reading_of
-refused_answer o x e = rw e refl
+refused_reading o z x e d = rw (e, d) refl
 
--- A refused text answers so, and says nothing of the tables.
-pub refused_all : {A B C : Request → Type 0} (o : Outcome) (x y : Returned) → y ≡ x → o ≡ refused (answer_is x)
-    → (Reading.Refused y ≡ reading_of o) ×
-    (((q : Request) → o ≡ result q → A q) × (((q : Request) → o ≡ result q → B q) × ((q : Request) → o ≡ result q → C q)))
-refused_all o x y r e = (
-  ap Reading.Refused r ∙ refused_answer o x e,
-  (
-    (λ q z. outcome_never o (answer_is x) q e z),
-    ((λ q z. outcome_never o (answer_is x) q e z), (λ q z. outcome_never o (answer_is x) q e z)),
-  ),
-)
-
-pub refused_outcome : (o : Outcome) (x : Returned) → reading_of o ≡ Reading.Refused x → o ≡ refused (answer_is x)
+pub kept_reading : (o : Outcome) (c : Counts) (forms policy steps : List ℕ) → Kept o c forms policy steps → Ok c ≡ reading_of o
 unfolding reading_of
-refused_outcome (result q) x e = never cc
-refused_outcome (refused z) x e =
-    let f : answer_of z ≡ x = cc in
-    ap refused (sym (answer_back z) ∙ ap answer_is f)
-
-pub record ReadOutcome (o : Outcome) : Type 0 where
-  pub request : Request
-  pub is : o ≡ result request
-
-pub read_outcome : (o : Outcome) (c : Counts) → reading_of o ≡ Reading.Read c → ReadOutcome o
-unfolding reading_of
-read_outcome (result q) c e = record { request = q; is = refl }
-read_outcome (refused z) c e = never cc
+kept_reading o c forms policy steps k = rw k.is (ap Ok k.counted)
 
 -- 'Order: 13, 1, then lines in order.'
 module _ (forms policy steps : ℕ) (s : List ℕ) where
@@ -263,15 +155,15 @@ module _ (forms policy steps : ℕ) (s : List ℕ) where
 
 -- The tables after a refusal, and after a request was read.
 module _ (len : ℕ) (o : Outcome) where
-  forms_zero : (z : Answer) → o ≡ refused z → replicate len 0 ≡ form_table_after len o
+  pub forms_zero : (z : Answer) → o ≡ refused z → replicate len 0 ≡ form_table_after len o
   unfolding form_table_after request_in
   forms_zero z e = rw e (sym (table_none form_entry len))
 
-  lines_zero : (z : Answer) → o ≡ refused z → replicate len 0 ≡ policy_table_after len o
+  pub lines_zero : (z : Answer) → o ≡ refused z → replicate len 0 ≡ policy_table_after len o
   unfolding policy_table_after request_in
   lines_zero z e = rw e (sym (table_none policy_entry len))
 
-  steps_zero : (z : Answer) → o ≡ refused z → replicate len 0 ≡ step_table_after len o
+  pub steps_zero : (z : Answer) → o ≡ refused z → replicate len 0 ≡ step_table_after len o
   unfolding step_table_after request_in
   steps_zero z e = rw e (sym (table_none step_entry len))
 
@@ -287,21 +179,36 @@ module _ (len : ℕ) (o : Outcome) where
   unfolding step_table_after request_in
   steps_stored q e = rw e refl
 
--- Three tables that are all zero, and what they are after a refusal.
-pub record Cleared (forms policy steps : ℕ) : Type 0 where
-  pub form_table : List ℕ
-  pub policy_table : List ℕ
-  pub step_table : List ℕ
-  pub forms_clear : form_table ≡ replicate forms 0
-  pub lines_clear : policy_table ≡ replicate policy 0
-  pub steps_clear : step_table ≡ replicate steps 0
+-- The same of the lent tables as the code left them: zero, or with what was read.
+module _ (len : ℕ) (o : Outcome) (t : List ℕ) where
+  module _ (m : ℕ) (z : Answer) (zero : t ≡ replicate m 0) (long : m ≡ len) (e : o ≡ refused z) where
+    filled : t ≡ replicate len 0
+    filled = zero ∙ ap (λ n. replicate n 0) long
 
-pub tables_zero : {forms policy steps : ℕ} (k : Cleared forms policy steps) (o : Outcome) (x : Returned) → o ≡ refused (answer_is x)
-    → (k.form_table ≡ form_table_after forms o) × ((k.policy_table ≡ policy_table_after policy o) × (k.step_table ≡ step_table_after steps o))
-tables_zero {forms} {policy} {steps} k o x e = (
-  k.forms_clear ∙ forms_zero forms o (answer_is x) e,
-  (k.lines_clear ∙ lines_zero policy o (answer_is x) e, k.steps_clear ∙ steps_zero steps o (answer_is x) e),
-)
+    pub forms_clear : t ≡ form_table_after len o
+    forms_clear = filled ∙ forms_zero len o z e
+
+    pub lines_clear : t ≡ policy_table_after len o
+    lines_clear = filled ∙ lines_zero len o z e
+
+    pub steps_clear : t ≡ step_table_after len o
+    steps_clear = filled ∙ steps_zero len o z e
+
+  module _ (q : Request) (long : length t ≡ len) (e : o ≡ result q) where
+    pub forms_kept : t ≡ table form_entry (length t) q.forms → t ≡ form_table_after len o
+    forms_kept is = is ∙ ap (λ n. table form_entry n q.forms) long ∙ forms_stored len o q e
+
+    pub lines_kept : t ≡ table policy_entry (length t) q.policy → t ≡ policy_table_after len o
+    lines_kept is = is ∙ ap (λ n. table policy_entry n q.policy) long ∙ lines_stored len o q e
+
+    pub steps_kept : t ≡ table step_entry (length t) q.steps → t ≡ step_table_after len o
+    steps_kept is = is ∙ ap (λ n. table step_entry n q.steps) long ∙ steps_stored len o q e
+
+-- A table that was filled with zeros.
+pub zero_is : (n len : ℕ) (t : List ℕ) → t ≡ replicate len 0 → n ≤ len → Zero n t
+zero_is n len t e h =
+    let l : length t ≡ len = ap length e ∙ length-replicate {A = ℕ} len 0 in
+    record { room = omega arith; zero = e ∙ ap (λ m. replicate m 0) (sym l) }
 
 -- Room for the largest counts.
 pub record Room (forms policy steps : ℕ) : Type 0 where

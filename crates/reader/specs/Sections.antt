@@ -8,7 +8,8 @@ use Rattle.scope.specs.Limits.{version_at, principals_at, atoms_at, formulas_at,
 use Rattle.scope.specs.File.Refusals.{demand, version_refusal, principals_refusal, atoms_refusal, formulas_refusal, clauses_refusal, goal_refusal, steps_refusal}
 use Rattle.scope.specs.File.Text.{version_line, principals_line, atoms_line, formulas_line, clauses_line, clause_line, goal_line, steps_line}
 use Rattle.scope.specs.File.Reader.{form_item, clause_item, step_item, read_logic}
-use Rattle.classes.specs.Class.{policy_in}
+use Rattle.classes.specs.Class.{policy_in, no_class}
+use Rattle.classes.specs.declared.Class.{Class}
 
 -- The first line, and in version 2 the second.
 pub record Told : Type 0 where
@@ -73,5 +74,5 @@ steps_part formulas clauses = do
 unfoldable pub below_refusal : ℕ → ℕ → ℕ
 below_refusal n f = demand (ltb f n) 3 0
 
-abbrev pub classed_item : List ℕ → ℕ → List ℕ → Reader ℕ
-classed_item classes formulas before = line clause_line (class_refusal policy_in classes formulas) (clause_at formulas (length before))
+abbrev pub classed_item : List Class → ℕ → List ℕ → Reader ℕ
+classed_item classes formulas before = line clause_line (class_refusal policy_in no_class classes formulas) (clause_at formulas (length before))

@@ -1,74 +1,83 @@
-// The three lines from `principals=` on: principals, atoms, formulas.
-ghost use Rattle.std.specs.Prelude.{◌≡◌, ◌≤◌, length};
+// Lines with a number, and the three from `principals=` on: principals, atoms, formulas.
+ghost use Rattle.std.specs.Prelude.{◌≡◌, suc, ◌≤◌, length, Result, IfOk};
 ghost use Rattle.scope.specs.Limits.{most_formulas};
 ghost use Rattle.scope.specs.File.Number.{number};
-ghost use Rattle.scope.specs.File.Line.{shaped_as};
+ghost use Rattle.scope.specs.File.Line.{shaped_as, placed, line_stop, line};
 ghost use Rattle.scope.specs.File.Refusals.{count_refusal};
-ghost use Rattle.lines.specs.Parts.{value_of};
-ghost use Rattle.reader.specs.Answers.{number_line_of, head_counts, part_of, formula_count};
+ghost use Rattle.columns.specs.Shapes.{number_with};
+ghost use Rattle.lines.specs.Parts.{rest_of};
+ghost use Rattle.reader.specs.Answers.{said, same, Reads, head_of};
 ghost use Rattle.reader.specs.Sections.{head_part};
 
-use crate::{NumberLine, Part};
-use common::Counts;
-use lines::Number;
+use crate::Parsed;
+use common::Refusal;
 
-// A line with a count between `least` and `most`.
-pub(crate) fn count_line(text: &[u8], key: &[u8], least: u16, most: u16) -> NumberLine
-    ensures { result ≡ number_line_of (shaped_as (count_refusal least most) (number (value_of key.now text.now))) }
-{
-    let value = lines::value_of(text, key);
-    let got = lines::read_number(value);
-    let Number::Value(n) = got else {
-        return NumberLine::Refused(2);
-    };
-    if n < least as u32 {
-        return NumberLine::Refused(3);
-    }
-    if (most as u32) < n {
-        return NumberLine::Refused(3);
-    }
-    NumberLine::Number(n as u16)
+// How many principals, atoms and formulas there are.
+#[derive(Clone, Copy)]
+pub(crate) struct Head {
+    pub(crate) principals: u16,
+    pub(crate) atoms: u16,
+    pub(crate) formulas: u16,
 }
 
-pub(crate) fn read_head(text: &[u8]) -> Part
-    ensures value { result ≡ part_of head_counts (length text.now) (head_part text.now) }
-    ensures few_formulas { formula_count result ≤ most_formulas }
+// A count between `least` and `most` in the value of a line.
+fn count_in(value: &[u8], least: u16, most: u16) -> Result<u16, Refusal>
+    ensures { said same result ≡ shaped_as (count_refusal least most) (number value.now) }
 {
-    let principals = count_line(text, b"principals=", 1, common::MOST_PRINCIPALS);
-    let NumberLine::Number(p) = principals else {
-        return Part::Refused(crate::number_refused(
+    let Ok(n) = lines::read_number(value) else {
+        return Err(Refusal::Shape);
+    };
+    if n < u32::from(least) || u32::from(most) < n {
+        return Err(Refusal::Range);
+    }
+    Ok(n as u16)
+}
+
+// A line with a number by what its value gave. No key is longer than `principals=`.
+pub(crate) fn number_line<'a>(
+    got: Result<u16, Refusal>,
+    text: &'a [u8],
+    key: &[u8],
+    place: u32,
+) -> Parsed<'a, u16>
+    requires { length key.now ≤ 11 }
+    ensures { Reads same (placed place (suc (line_stop (number_with key.now) text.now)) (said same got) (rest_of text.now)) result }
+{
+    match got {
+        Ok(n) => Ok((n, lines::rest_of(text))),
+        Err(refusal) => Err(crate::refused(refusal, place, columns::number_line(text, key))),
+    }
+}
+
+pub(crate) fn count_line<'a>(
+    text: &'a [u8],
+    key: &[u8],
+    least: u16,
+    most: u16,
+    place: u32,
+) -> Parsed<'a, u16>
+    requires { length key.now ≤ 11 }
+    ensures { Reads same (line (number_with key.now) (count_refusal least most) place text.now) result }
+{
+    let count = count_in(lines::value_of(text, key), least, most);
+    number_line(count, text, key, place)
+}
+
+pub(crate) fn read_head(text: &[u8]) -> Parsed<'_, Head>
+    ensures value { Reads head_of (head_part text.now) result }
+    ensures few_formulas { IfOk result (λ p. p.0.formulas ≤ most_formulas) }
+{
+    let most = common::MOST_PRINCIPALS;
+    let (principals, rest) = count_line(text, b"principals=", 1, most, common::principals_at())?;
+    let (atoms, rest) = count_line(rest, b"atoms=", 1, common::MOST_ATOMS, common::atoms_at())?;
+    let most = common::MOST_FORMULAS;
+    let (formulas, rest) = count_line(rest, b"formulas=", 1, most, common::formulas_at())?;
+    Ok((
+        Head {
             principals,
-            common::principals_at(),
-            text,
-            b"principals=",
-        ));
-    };
-    let second = lines::rest_of(text);
-    let atoms = count_line(second, b"atoms=", 1, common::MOST_ATOMS);
-    let NumberLine::Number(a) = atoms else {
-        return Part::Refused(crate::number_refused(atoms, common::atoms_at(), second, b"atoms="));
-    };
-    let third = lines::rest_of(second);
-    let formulas = count_line(third, b"formulas=", 1, common::MOST_FORMULAS);
-    let NumberLine::Number(f) = formulas else {
-        return Part::Refused(crate::number_refused(
+            atoms,
             formulas,
-            common::formulas_at(),
-            third,
-            b"formulas=",
-        ));
-    };
-    let rest = lines::rest_of(third);
-    let at = text.len() - rest.len();
-    let counts = Counts {
-        version: 0,
-        logic: 0,
-        principals: p,
-        atoms: a,
-        formulas: f,
-        policy: 0,
-        goal: 0,
-        steps: 0,
-    };
-    Part::Read(counts, at)
+        },
+        rest,
+    ))
 }

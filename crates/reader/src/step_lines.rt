@@ -1,91 +1,79 @@
 // The `step=` lines.
-ghost use Rattle.std.specs.Prelude.{◌≡◌, ℕ, ◌*◌, ◌≤◌, List, [], length, replicate};
-ghost use Rattle.scope.specs.Limits.{most_steps};
-ghost use Rattle.scope.specs.File.Line.{shaped_as, many, ok};
+ghost use Rattle.std.specs.Prelude.{◌≡◌, suc, ◌*◌, ◌≤◌, [], length, Result};
+ghost use Rattle.scope.specs.Limits.{most_steps, step_at};
+ghost use Rattle.scope.specs.File.Line.{shaped_as, line, many};
 ghost use Rattle.scope.specs.File.Kinds.{step_kinds, row_in};
 ghost use Rattle.scope.specs.File.Refusals.{step_refusal};
-ghost use Rattle.scope.specs.File.Request.{Row as StepRow};
+ghost use Rattle.scope.specs.File.Text.{step_line};
 ghost use Rattle.scope.specs.File.Reader.{step_item};
-ghost use Rattle.scope.specs.Call.Tables.{table, step_entry};
-ghost use Rattle.reader.specs.Answers.{step_line_of, section_of, steps_counts, part_of};
+ghost use Rattle.scope.specs.Call.Tables.{step_entry};
+ghost use Rattle.reader.specs.Answers.{said, step_row, Reads, Zero, ReadsMany, ReadsPart, count_of, rows_of};
 ghost use Rattle.reader.specs.Sections.{steps_part};
 
-use crate::{NumberLine, Part, Section, StepLine};
-use common::Counts;
-use lines::Row;
+use crate::Parsed;
+use common::{Answer, Refusal};
+use lines::Items;
+use steps::Pair;
 
-// The value of a `step=` line.
-fn step_line(value: &[u8]) -> StepLine
-    ensures { result ≡ step_line_of (shaped_as step_refusal (row_in step_kinds value.now)) }
+// The step in the value of a `step=` line, as its two numbers in the table.
+fn step_in(value: &[u8]) -> Result<Pair, Refusal>
+    ensures { said step_row result ≡ shaped_as step_refusal (row_in step_kinds value.now) }
 {
-    let got = lines::step_row(value);
-    let Row::Items(kind, left, right) = got else {
-        return StepLine::Refused(2);
+    let Some(items) = lines::step_row(value) else {
+        return Err(Refusal::Shape);
     };
-    let refusal = refusals::step_refusal(kind, left, right);
-    if refusal != 0 {
-        return StepLine::Refused(refusal);
-    }
-    let k = kind as u16;
-    let n = left as u16;
-    let step = steps::step_of(k, n);
-    StepLine::Step(step)
+    let Items { kind, left, right } = items;
+    refusals::check_step(usize::from(kind), left, right)?;
+    Ok(Pair {
+        kind,
+        number: left as u16,
+    })
 }
 
-fn read_steps(text: &[u8], formulas: u16, clauses: u16, count: u16, steps: &mut [u16]) -> Section
-    requires { (count ≤ most_steps) × (2 * most_steps ≤ length steps.old) × (steps.old ≡ replicate (length steps.old) 0) }
-    ensures value { result ≡ section_of (length text.now) (many (step_item formulas clauses) count [] text.now) }
-    ensures steps_after { (rows : List StepRow) (rest : List ℕ) → many (step_item formulas clauses) count [] text.now ≡ ok rows rest → steps.new ≡ table step_entry (length steps.old) rows }
+fn step_line(text: &[u8], place: u32) -> Parsed<'_, Pair>
+    ensures { Reads step_row (line step_line step_refusal place text.now) result }
+{
+    let value = lines::value_of(text, b"step=");
+    match step_in(value) {
+        Ok(step) => Ok((step, &text[value.len() + 6..])),
+        Err(refusal) => Err(crate::refused(refusal, place, columns::step_line(text))),
+    }
+}
+
+fn read_steps<'a>(
+    text: &'a [u8],
+    formulas: u16,
+    clauses: u16,
+    count: u16,
+    steps: &mut [u16],
+) -> Result<&'a [u8], Answer>
+    requires few { count ≤ most_steps }
+    requires zero { Zero (2 * most_steps) steps.old }
+    ensures { ReadsMany step_entry count (many (step_item formulas clauses) count [] text.now) result steps.new }
 {
     let mut rest = text;
-    let mut i: u16 = 0;
-    while i < count {
-        let value = lines::value_of(rest, b"step=");
-        let got = step_line(value);
-        let StepLine::Step(step) = got else {
-            let place = common::step_at(formulas, clauses, i);
-            return Section::Refused(crate::step_refused(got, place, rest));
-        };
-        let pair = steps::pair_of(step);
-        let at = 2 * (i as usize);
-        let second = at + 1;
-        steps[at] = pair.kind;
-        steps[second] = pair.number;
-        let past = value.len() + 6;
-        let next = &rest[past..];
-        rest = next;
-        i += 1;
+    for i in 0..count {
+        let (step, behind) = step_line(rest, common::step_at(formulas, clauses, i))?;
+        let at = 2 * usize::from(i);
+        steps[at] = step.kind;
+        steps[at + 1] = step.number;
+        rest = behind;
     }
-    let taken = text.len() - rest.len();
-    Section::Read(taken)
+    Ok(rest)
 }
 
-pub(crate) fn read_proof(text: &[u8], counts: Counts, steps: &mut [u16]) -> Part
-    requires { (2 * most_steps ≤ length steps.old) × (steps.old ≡ replicate (length steps.old) 0) }
-    ensures value { result ≡ part_of (steps_counts counts) (length text.now) (steps_part counts.formulas counts.policy text.now) }
-    ensures steps_after { (rows : List StepRow) (rest : List ℕ) → steps_part counts.formulas counts.policy text.now ≡ ok rows rest → steps.new ≡ table step_entry (length steps.old) rows }
+pub(crate) fn read_proof<'a>(
+    text: &'a [u8],
+    formulas: u16,
+    clauses: u16,
+    steps: &mut [u16],
+) -> Parsed<'a, u16>
+    requires { Zero (2 * most_steps) steps.old }
+    ensures { ReadsPart count_of rows_of (steps_part formulas clauses text.now) result steps.new }
 {
-    let line = crate::first_lines::count_line(text, b"steps=", 1, common::MOST_STEPS);
-    let NumberLine::Number(count) = line else {
-        let place = common::steps_at(counts.formulas, counts.policy);
-        return Part::Refused(crate::number_refused(line, place, text, b"steps="));
-    };
-    let rest = lines::rest_of(text);
-    let got = read_steps(rest, counts.formulas, counts.policy, count, steps);
-    let Section::Read(at) = got else {
-        return Part::Refused(crate::section_refused(got));
-    };
-    let before = text.len() - rest.len();
-    let taken = before + at;
-    let all = Counts {
-        version: counts.version,
-        logic: counts.logic,
-        principals: counts.principals,
-        atoms: counts.atoms,
-        formulas: counts.formulas,
-        policy: counts.policy,
-        goal: counts.goal,
-        steps: count,
-    };
-    Part::Read(all, taken)
+    let place = common::steps_at(formulas, clauses);
+    let most = common::MOST_STEPS;
+    let (count, rest) = crate::first_lines::count_line(text, b"steps=", 1, most, place)?;
+    let rest = read_steps(rest, formulas, clauses, count, steps)?;
+    Ok((count, rest))
 }

@@ -1,49 +1,46 @@
 // The first line, and in version 2 the second: version and logic.
-ghost use Rattle.std.specs.Prelude.{◌≡◌, length};
-ghost use Rattle.scope.specs.File.Bytes.{bytes};
-ghost use Rattle.scope.specs.File.Kinds.{logic_word};
-ghost use Rattle.scope.specs.File.Line.{shaped_as};
-ghost use Rattle.lines.specs.Parts.{value_of};
-ghost use Rattle.reader.specs.Answers.{logic_line_of, start_of};
+ghost use Rattle.std.specs.Prelude.{Result};
+ghost use Rattle.scope.specs.File.Kinds.{logic_number};
+ghost use Rattle.scope.specs.File.Line.{line};
+ghost use Rattle.scope.specs.File.Text.{logic_line};
+ghost use Rattle.scope.specs.Limits.{logic_at};
+ghost use Rattle.reader.specs.Answers.{Gives, start_of};
 ghost use Rattle.reader.specs.Sections.{start_part};
 
+use crate::Parsed;
 use crate::first_lines::count_line;
-use crate::{NumberLine, Start};
+use common::Refusal;
 
-// The number of the logic that a line tells.
-fn logic_line(text: &[u8]) -> NumberLine
-    ensures { result ≡ logic_line_of (shaped_as (λ l. 0) (logic_word (value_of (bytes "logic=") text.now))) }
-{
-    let value = lines::value_of(text, b"logic=");
-    let number = lines::logic_number(value);
-    if number == 2 {
-        return NumberLine::Refused(2);
-    }
-    NumberLine::Number(number)
+// What the first lines tell: the logic is 0 where they tell none.
+#[derive(Clone, Copy)]
+pub(crate) struct Start {
+    pub(crate) version: u16,
+    pub(crate) logic: u16,
 }
 
-pub(crate) fn read_start(text: &[u8]) -> Start
-    ensures { result ≡ start_of (length text.now) (start_part text.now) }
+fn logic_line(text: &[u8]) -> Parsed<'_, u16>
+    ensures { Gives logic_number (line logic_line (λ l. 0) logic_at text.now) result }
 {
-    let version = count_line(text, b"version=", 1, common::MOST_VERSION);
-    let NumberLine::Number(v) = version else {
-        return Start::Refused(crate::number_refused(
-            version,
-            common::version_at(),
-            text,
-            b"version=",
-        ));
+    let Some(number) = lines::logic_number(lines::value_of(text, b"logic=")) else {
+        let stop = columns::logic_line(text);
+        return Err(crate::refused(Refusal::Shape, common::logic_at(), stop));
     };
-    let second = lines::rest_of(text);
-    if v != 2 {
-        let past = text.len() - second.len();
-        return Start::Read(v, 0, past);
+    Ok((number, lines::rest_of(text)))
+}
+
+pub(crate) fn read_start(text: &[u8]) -> Parsed<'_, Start>
+    ensures { Gives start_of (start_part text.now) result }
+{
+    let (version, rest) = count_line(
+        text,
+        b"version=",
+        1,
+        common::MOST_VERSION,
+        common::version_at(),
+    )?;
+    if version != 2 {
+        return Ok((Start { version, logic: 0 }, rest));
     }
-    let logic = logic_line(second);
-    let NumberLine::Number(l) = logic else {
-        return Start::Refused(crate::logic_refused(logic, common::logic_at(), second));
-    };
-    let rest = lines::rest_of(second);
-    let at = text.len() - rest.len();
-    Start::Read(v, l, at)
+    let (logic, rest) = logic_line(rest)?;
+    Ok((Start { version, logic }, rest))
 }

@@ -1,72 +1,25 @@
--- `reader::form_lines::form_line` meets its contract: out of shape is 2, and a row in shape has its own refusal; one that passes is small.
-use mathlib.Core.Path.{sym, ◌∙◌}
-use Rattle.scope.specs.File.Kinds.{form_kinds}
-use Rattle.scope.specs.File.Refusals.{row_refusal}
-use Rattle.reader.specs.Lines.{row_out, row_val, row_lost, row_turned, row_taken}
-use Rattle.refusals.specs.Rows.{Small, form_small}
-use native.Mathlib.Omega.{arith}
+use Rattle.std.proofs.Common.{arith, ◌∙◌}
+use Rattle.scope.specs.File.Text.{form_line}
+use Rattle.columns.specs.Small.{form_line_small}
+use Rattle.common.specs.Rows.{as_row}
+use Rattle.reader.specs.Lines.{no_form, line_read, line_refused, line_behind, told_read}
 use Rattle.reader.proofs.form_lines.form_line.Goals as goal
 
-pub returns-in_default : goal.returns-in_default
-returns-in_default c =
-    row_out _ 2 (row_lost form_kinds (row_refusal form_kinds c.args.principals
-    c.args.atoms c.args.formula)
-    c.args.value.now c.form_row-got.result c.form_row-got.ensures
-    c.in_default.is)
+pub slice_bounds-result-count : goal.slice_bounds-result-count
+slice_bounds-result-count c = (line_behind form_line _ 0 c.args.text.now c.value_of-value.result.now c.value_of-value.ensures no_form _ c.in-Ok.ensures.value).inside
 
-pub returns-then-refusal-ne0 : goal.returns-then-refusal-ne0
-returns-then-refusal-ne0 c =
-    row_out _ c.form_refusal-refusal.result
-    (row_turned form_kinds (row_refusal form_kinds c.args.principals
-    c.args.atoms
-    c.args.formula)
-    c.args.value.now
-    c.form_row-got.result
-    c.form_row-got.ensures
-    c.in-Items.kind c.in-Items.left
-    c.in-Items.right c.in-Items.is
-    c.form_refusal-refusal.result c.form_refusal-refusal.ensures c.if-refusal-ne0.true)
+pub slice_bounds-result-start : goal.slice_bounds-result-start
+slice_bounds-result-start c = (line_behind form_line _ 0 c.args.text.now c.value_of-value.result.now c.value_of-value.ensures no_form _ c.in-Ok.ensures.value).inside
 
-pub overflow_cast-k : goal.overflow_cast-k
-overflow_cast-k c = let small : Small c.args.principals c.args.atoms c.args.formula c.in-Items.left c.in-Items.right c.in-Items.kind = form_small c.args.principals
-    c.args.atoms
-    c.args.formula c.in-Items.left
-    c.in-Items.right c.ranges.principals.fits
-    c.ranges.atoms.fits
-    c.ranges.formula.fits
-    c.in-Items.kind (sym c.form_refusal-refusal.ensures ∙ c.if-refusal-ne0.false) in
-    omega (arith, (small).kinds)
+pub refused-requires : goal.refused-requires
+refused-requires c = omega (arith, c.form_line-stop.ensures, form_line_small c.args.text.now)
 
-pub overflow_cast-x : goal.overflow_cast-x
-overflow_cast-x c = let small : Small c.args.principals c.args.atoms c.args.formula c.in-Items.left c.in-Items.right c.in-Items.kind = form_small c.args.principals
-    c.args.atoms
-    c.args.formula c.in-Items.left
-    c.in-Items.right c.ranges.principals.fits
-    c.ranges.atoms.fits
-    c.ranges.formula.fits
-    c.in-Items.kind (sym c.form_refusal-refusal.ensures ∙ c.if-refusal-ne0.false) in
-    omega (arith, (small).lefts)
+pub returns-in-Ok-clause-value : goal.returns-in-Ok-clause-value
+returns-in-Ok-clause-value c =
+    line_read form_line _ _ c.args.text.now c.value_of-value.result.now c.value_of-value.ensures no_form (as_row c.in-Ok.row) _ c.in-Ok.ensures.value
+    (line_behind form_line _ 0 c.args.text.now c.value_of-value.result.now c.value_of-value.ensures no_form _ c.in-Ok.ensures.value).rest
 
-pub overflow_cast-y : goal.overflow_cast-y
-overflow_cast-y c = let small : Small c.args.principals c.args.atoms c.args.formula c.in-Items.left c.in-Items.right c.in-Items.kind = form_small c.args.principals
-    c.args.atoms
-    c.args.formula c.in-Items.left
-    c.in-Items.right c.ranges.principals.fits
-    c.ranges.atoms.fits
-    c.ranges.formula.fits
-    c.in-Items.kind (sym c.form_refusal-refusal.ensures ∙ c.if-refusal-ne0.false) in
-    omega (arith, (small).rights)
-
-pub returns : goal.returns
-returns c =
-    row_val _ c.in-Items.kind c.in-Items.left
-    c.in-Items.right
-    (row_taken form_kinds (row_refusal form_kinds c.args.principals
-    c.args.atoms
-    c.args.formula)
-    c.args.value.now
-    c.form_row-got.result
-    c.form_row-got.ensures
-    c.in-Items.kind c.in-Items.left
-    c.in-Items.right c.in-Items.is
-    (sym c.form_refusal-refusal.ensures ∙ c.if-refusal-ne0.false))
+pub returns-in-Err-clause-value : goal.returns-in-Err-clause-value
+returns-in-Err-clause-value c =
+    line_refused form_line _ _ c.args.text.now c.value_of-value.result.now c.value_of-value.ensures no_form _ c.in-Err.ensures.value ∙
+    told_read _ _ _ _ _ (rw c.form_at.ensures at c.refused.ensures) c.form_line-stop.ensures

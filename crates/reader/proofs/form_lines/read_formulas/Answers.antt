@@ -1,105 +1,25 @@
--- `reader::form_lines::read_formulas` meets its contract: the `form=` lines are read from where the first four lines end.
-use Prim.Native.Nat.{◌≤◌}
-use mathlib.Core.Path.{ap, sym, subst, ◌∙◌}
-use lib.ListN.{length}
-use Rattle.scope.specs.Limits.{most_formulas}
-use Rattle.scope.specs.Call.Tables.{form_entry}
-use Rattle.reader.specs.Sections.{formulas_part}
-use Rattle.reader.specs.Answers.{formulas_counts, formula_count, section_refused}
-use Rattle.reader.specs.Got.{SectionKept, part_refused_lem}
-use Rattle.reader.specs.Joins.{HeadKept, behind_head, forms_read, formulas_stopped, head_place, forms_stopped, forms_inside, forms_joined}
-use Rattle.reader.specs.declared.Part.TheVariants as Part
-use native.Mathlib.Omega.{arith}
+use Rattle.std.proofs.Common.{ap, sym}
+use Rattle.std.proofs.lemmas.Result.{err_from_is_err_and}
+use Rattle.reader.specs.Joins.{formulas_at_head, formulas_at_forms, formulas_whole}
 use Rattle.reader.proofs.form_lines.read_formulas.Goals as goal
 
-pub returns-in_default : goal.returns-in_default
-returns-in_default c =
-    let t = c.args.text.now in
-    let x = c.in_default.field-0 in
-    let r = part_refused_lem formulas_counts (length t) (formulas_part t) x
-    (formulas_stopped t x (sym c.read_head-head.ensures.value ∙ c.in_default.is)) c.read_head-head.result
-    c.in_default.is in
+pub returns-in_err-head-clause-value : goal.returns-in_err-head-clause-value
+returns-in_err-head-clause-value c =
+    let out = err_from_is_err_and c.from_residual.result c.from_residual.ensures.1 in
+    rw (out.1, out.2) (formulas_at_head c.args.text.now _ c.in_err-head.ensures.value)
+
+pub returns-in_err-rest-clause-value : goal.returns-in_err-rest-clause-value
+returns-in_err-rest-clause-value c =
+    let out = err_from_is_err_and c.from_residual-in_err-rest.result c.from_residual-in_err-rest.ensures.1 in
+    rw (out.1, out.2) (formulas_at_forms c.args.text.now _ _ c.in_ok-head.ensures.value _ c.in_err-rest.ensures)
+
+pub returns-clause-value : goal.returns-clause-value
+returns-clause-value c =
+    let h = c.in_ok-head.head in
+    let forms = c.in_ok-rest.ensures in
     record {
-      value = r.0;
-      forms_after = r.1;
-      few_formulas = c.read_head-head.ensures.few_formulas;
-    }
-
-pub slice_bounds-rest-count : goal.slice_bounds-rest-count
-slice_bounds-rest-count c = let counts : HeadKept c.args.text.now = record {
-  counts = c.in-Read.counts;
-  at = c.in-Read.at;
-  is = sym c.read_head-head.ensures.value ∙ c.in-Read.is;
-} in
-    head_place counts
-
-pub slice_bounds-rest-start : goal.slice_bounds-rest-start
-slice_bounds-rest-start c = let counts : HeadKept c.args.text.now = record {
-  counts = c.in-Read.counts;
-  at = c.in-Read.at;
-  is = sym c.read_head-head.ensures.value ∙ c.in-Read.is;
-} in
-    head_place counts
-
-pub read_forms-got-requires : goal.read_forms-got-requires
-read_forms-got-requires c = let few : c.in-Read.counts.formulas ≤ most_formulas = subst (λ h. formula_count h ≤ most_formulas) c.in-Read.is c.read_head-head.ensures.few_formulas in
-    (few, c.requires.0, c.requires.1)
-
-pub returns-in_default-got : goal.returns-in_default-got
-returns-in_default-got c = let counts : HeadKept c.args.text.now = record {
-  counts = c.in-Read.counts;
-  at = c.in-Read.at;
-  is = sym c.read_head-head.ensures.value ∙ c.in-Read.is;
-} in
-    let t = c.args.text.now in
-    let x = c.in_default-got.field-0 in
-    let r = part_refused_lem formulas_counts (length t) (formulas_part t) x
-    (forms_stopped counts x
-    (sym c.read_forms-got.ensures.value ∙ c.in_default-got.is))
-    (Part.Refused c.section_refused.result)
-    (ap Part.Refused (c.section_refused.ensures ∙ ap section_refused c.in_default-got.is)) in
-    record {
-      value = r.0;
-      forms_after = r.1;
-      few_formulas = omega arith;
-    }
-
-pub overflow_add-taken : goal.overflow_add-taken
-overflow_add-taken c = let counts : HeadKept c.args.text.now = record {
-  counts = c.in-Read.counts;
-  at = c.in-Read.at;
-  is = sym c.read_head-head.ensures.value ∙ c.in-Read.is;
-} in
-    let forms : SectionKept form_entry (length (behind_head counts)) (forms_read counts) = record {
-      at = c.in-Read-got.more;
-      is = sym c.read_forms-got.ensures.value ∙ c.in-Read-got.is;
-      numbers = c.read_forms-got.new.forms;
-      len = length c.args.forms.now;
-      stored = c.read_forms-got.ensures.forms_after;
-    } in
-    omega (
-      arith,
-      forms_inside counts forms,
-      c.well_formed.0.0,
-    )
-
-pub returns : goal.returns
-returns c = let counts : HeadKept c.args.text.now = record {
-  counts = c.in-Read.counts;
-  at = c.in-Read.at;
-  is = sym c.read_head-head.ensures.value ∙ c.in-Read.is;
-} in
-    let forms : SectionKept form_entry (length (behind_head counts)) (forms_read counts) = record {
-      at = c.in-Read-got.more;
-      is = sym c.read_forms-got.ensures.value ∙ c.in-Read-got.is;
-      numbers = c.read_forms-got.new.forms;
-      len = length c.args.forms.now;
-      stored = c.read_forms-got.ensures.forms_after;
-    } in
-    let few : c.in-Read.counts.formulas ≤ most_formulas = subst (λ h. formula_count h ≤ most_formulas) c.in-Read.is c.read_head-head.ensures.few_formulas in
-    let r = forms_joined counts forms in
-    record {
-      value = r.0;
-      forms_after = r.1;
-      few_formulas = few;
+      thing = record { principals = h.principals; atoms = h.atoms; forms = forms.things };
+      is = formulas_whole c.args.text.now _ _ c.in_ok-head.ensures.value _ _ forms.is;
+      seen = ap (λ k. record { principals = h.principals; atoms = h.atoms; formulas = k }) (sym forms.count);
+      stored = forms.stored;
     }

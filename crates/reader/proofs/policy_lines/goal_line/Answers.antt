@@ -1,40 +1,15 @@
--- `reader::policy_lines::goal_line` meets its contract: the class is asked of a number that is a formula's.
-use mathlib.Core.Path.{◌≡◌, ap, sym, ◌∙◌}
-use Rattle.scope.specs.File.Bytes.{bytes}
-use Rattle.scope.specs.File.Number.{number}
-use Rattle.scope.specs.File.Line.{shaped_as}
-use Rattle.lines.specs.Parts.{value_of}
-use Rattle.classes.specs.Class.{goal_in}
-use Rattle.reader.specs.Sections.{below_refusal}
-use Rattle.reader.specs.Answers.{number_line_of}
-use Rattle.reader.specs.Lines.{class_before, class_met, class_unmet}
+use Rattle.std.proofs.Common.{sym, subst}
+use Rattle.scope.specs.File.Text.{goal_line}
+use Rattle.scope.specs.Limits.{goal_at}
+use Rattle.classes.specs.Class.{goal_in, no_class}
+use Rattle.refusals.specs.Rows.{class_refusal}
+use Rattle.reader.specs.Answers.{same, Reads}
+use Rattle.reader.specs.Lines.{no_number, line_said}
 use Rattle.reader.proofs.policy_lines.goal_line.Goals as goal
 
-pub returns-in_default : goal.returns-in_default
-returns-in_default c = let found : c.formula_line-got.result ≡ number_line_of (shaped_as (below_refusal c.args.formulas) (number (value_of (bytes "goal=") c.args.text.now))) = c.formula_line-got.ensures ∙ ap
-    (λ t. number_line_of (shaped_as (below_refusal c.args.formulas) (number t)))
-    c.value_of-value.ensures in
-    c.in_default.is ∙ class_before goal_in c.args.classes.now
-    c.args.formulas
-    (number (value_of (bytes "goal=") c.args.text.now)) _
-    (sym found ∙ c.in_default.is)
-
-pub returns-then-allowed : goal.returns-then-allowed
-returns-then-allowed c = let found : c.formula_line-got.result ≡ number_line_of (shaped_as (below_refusal c.args.formulas) (number (value_of (bytes "goal=") c.args.text.now))) = c.formula_line-got.ensures ∙ ap
-    (λ t. number_line_of (shaped_as (below_refusal c.args.formulas) (number t)))
-    c.value_of-value.ensures in
-    let a = c.args in
-    class_met goal_in a.classes.now a.formulas (number (value_of (bytes "goal=") a.text.now))
-    c.in-Number.f
-    (sym found ∙ c.in-Number.is)
-    (ap goal_in (sym c.byte_at.ensures) ∙ sym c.is_goal-allowed.ensures ∙ c.if-allowed.true)
-
 pub returns : goal.returns
-returns c = let found : c.formula_line-got.result ≡ number_line_of (shaped_as (below_refusal c.args.formulas) (number (value_of (bytes "goal=") c.args.text.now))) = c.formula_line-got.ensures ∙ ap
-    (λ t. number_line_of (shaped_as (below_refusal c.args.formulas) (number t)))
-    c.value_of-value.ensures in
-    let a = c.args in
-    class_unmet goal_in a.classes.now a.formulas (number (value_of (bytes "goal=") a.text.now))
-    c.in-Number.f
-    (sym found ∙ c.in-Number.is)
-    (ap goal_in (sym c.byte_at.ensures) ∙ sym c.is_goal-allowed.ensures ∙ c.if-allowed.false)
+returns c =
+    subst (λ r. Reads same r c.number_line.result)
+    (sym (line_said goal_line (class_refusal goal_in no_class c.args.classes.now c.args.formulas) _ c.args.text.now c.value_of.result.now
+    c.value_of.ensures no_number _ c.goal_in-got.ensures))
+    (rw c.goal_at.ensures at c.number_line.ensures)
