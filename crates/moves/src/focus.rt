@@ -1,28 +1,14 @@
 // In focus on a clause at u, aiming at an atom at w.
-#![tactic(auto, using(crate::specs::Tests::tests), unfolding(common::specs::Rows::kind_number, crate::specs::Steps::left_step, crate::specs::Steps::right_step, crate::specs::Steps::to_imp, crate::specs::Steps::to_says, crate::specs::Steps::to_step, crate::specs::Steps::hit_step))]
+#![tactic(auto, using(crate::specs::Tests::tests), unfolding(common::specs::Rows::kind_number, crate::specs::Steps::to_imp, crate::specs::Steps::to_says, crate::specs::Steps::to_step, crate::specs::Steps::hit_step))]
 
 ghost use Rattle.std.specs.Prelude.{◌≡◌};
-ghost use Rattle.moves.specs.Steps.{left_step, right_step, to_imp, to_says, to_step, hit_step};
+ghost use Rattle.moves.specs.Steps.{to_imp, to_says, to_step, hit_step};
 
 use crate::judging::Sequent;
 use crate::{Move, demand};
 use common::{FormKind, MOST_OPEN, Refusal, Row};
 use facts::Facts;
 use steps::{Principal, World};
-
-pub(crate) fn left_step(r: Row, u: World) -> Result<Move, Refusal>
-    ensures { result ≡ left_step r u }
-{
-    demand(r.is(FormKind::And), Refusal::StepMisfit)?;
-    Ok(Move::Aim(r.left, u))
-}
-
-pub(crate) fn right_step(r: Row, u: World) -> Result<Move, Refusal>
-    ensures { result ≡ right_step r u }
-{
-    demand(r.is(FormKind::And), Refusal::StepMisfit)?;
-    Ok(Move::Aim(r.right, u))
-}
 
 fn to_imp(s: &Sequent, r: Row, u: World, v: World) -> Result<Move, Refusal>
     ensures { result ≡ to_imp s.now.facts.now.rows r u v s.now.worlds s.now.opened }

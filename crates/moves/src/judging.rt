@@ -1,13 +1,15 @@
 // A step on the current obligation, by its phase.
-#![tactic(auto, using(crate::specs::Tests::tests), unfolding(common::specs::Rows::kind_number, common::specs::Rows::row_at, crate::specs::Judge::find_clause, crate::specs::Judge::use_clause, crate::specs::Judge::on_goal, crate::specs::Judge::goal_step, crate::specs::Judge::on_focus, crate::specs::Judge::focus_step, crate::specs::Judge::on_chunk, crate::specs::Judge::chunk_step, crate::specs::Judge::judge_step))]
+#![tactic(auto, using(crate::specs::Tests::tests), unfolding(common::specs::Rows::kind_number, common::specs::Rows::row_at, crate::specs::Judge::find_clause, crate::specs::Judge::use_clause, crate::specs::Judge::on_goal, crate::specs::Judge::goal_step, crate::specs::Judge::on_focus, crate::specs::Judge::focus_step, crate::specs::Judge::on_chunk, crate::specs::Judge::chunk_step, crate::specs::Judge::judge_step, crate::specs::Steps::and_step, crate::specs::Steps::or1_step, crate::specs::Steps::or2_step, crate::specs::Steps::imp_step, crate::specs::Steps::says_step, crate::specs::Steps::top_step, crate::specs::Steps::left_step, crate::specs::Steps::right_step, crate::specs::Steps::split_step, crate::specs::Steps::case_step, crate::specs::Steps::absurd_step, crate::specs::Steps::drop_step, crate::specs::Steps::note_step))]
 
 ghost use Rattle.std.specs.Prelude.{◌≡◌};
 ghost use Rattle.moves.specs.Judge.{forms_of, ats_of, find_clause, goal_step, focus_step, chunk_step, judge_step};
 
-use crate::{Lab, Move, Phase, chunk, focus, goal};
-use common::{FormKind, MOST_CLAUSES, Refusal, row_at, value_at};
+use crate::{Lab, Move, Phase, chunk, focus, goal, on_kind, with_room};
+use common::{
+    FormKind, MOST_CHUNKS, MOST_CLAUSES, MOST_OPEN, MOST_WORLDS, Refusal, row_at, value_at,
+};
 use facts::Facts;
-use steps::{Clause, Step, World};
+use steps::{Clause, Principal, Step, World};
 
 // The clauses of a sequent by their numbers, policy lines first; one place more, which is never read.
 pub const CLAUSES: usize = MOST_CLAUSES as usize + 1;
@@ -50,12 +52,21 @@ impl Sequent<'_> {
     {
         let r = row_at(self.forms, g.form);
         match x {
-            Step::And => goal::and_step(r, self.opened),
-            Step::Or1 => goal::or1_step(r),
-            Step::Or2 => goal::or2_step(r),
-            Step::Imp => goal::imp_step(r, self.worlds),
-            Step::Says => goal::says_step(r, self.worlds),
-            Step::Top => goal::top_step(r),
+            Step::And => {
+                let m = Move::Both(r.left, r.right);
+                with_room(r, FormKind::And, self.opened, MOST_OPEN, m)
+            }
+            Step::Or1 => on_kind(r, FormKind::Or, Move::Go(r.left)),
+            Step::Or2 => on_kind(r, FormKind::Or, Move::Go(r.right)),
+            Step::Imp => {
+                let m = Move::Less(r.left, r.right);
+                with_room(r, FormKind::Imp, self.worlds, MOST_WORLDS, m)
+            }
+            Step::Says => {
+                let m = Move::Speak(Principal(r.left), r.right);
+                with_room(r, FormKind::Says, self.worlds, MOST_WORLDS, m)
+            }
+            Step::Top => on_kind(r, FormKind::Top, Move::Close),
             Step::Sf => goal::sf_step(self.facts, r, g.at),
             Step::Use(n) => goal::use_step(r, self.find_clause(n)),
             _ => Err(Refusal::StepMisfit),
@@ -68,8 +79,8 @@ impl Sequent<'_> {
         let r = row_at(self.forms, part.form);
         let aim = row_at(self.forms, target.form);
         match x {
-            Step::Left => focus::left_step(r, part.at),
-            Step::Right => focus::right_step(r, part.at),
+            Step::Left => on_kind(r, FormKind::And, Move::Aim(r.left, part.at)),
+            Step::Right => on_kind(r, FormKind::And, Move::Aim(r.right, part.at)),
             Step::To(n) => focus::to_step(self, r, part.at, n),
             Step::Hit => focus::hit_step(self.facts, r, part.at, aim.left, target.at),
             _ => Err(Refusal::StepMisfit),
@@ -83,11 +94,20 @@ impl Sequent<'_> {
         let r = row_at(self.forms, top);
         match x {
             Step::Push => chunk::push_step(r, self.count),
-            Step::Split => chunk::split_step(r, n),
-            Step::Case => chunk::case_step(r, self.opened),
-            Step::Absurd => chunk::absurd_step(r),
-            Step::Drop => chunk::drop_step(r),
-            Step::Note => chunk::note_step(r),
+            Step::Split => {
+                let m = Move::Split(r.left, r.right);
+                with_room(r, FormKind::And, n, MOST_CHUNKS, m)
+            }
+            Step::Case => {
+                let m = Move::Case(r.left, r.right);
+                with_room(r, FormKind::Or, self.opened, MOST_OPEN, m)
+            }
+            Step::Absurd => on_kind(r, FormKind::Bot, Move::Close),
+            Step::Drop => on_kind(r, FormKind::Top, Move::Drop),
+            Step::Note => {
+                let m = Move::Note(Principal(r.left), Principal(r.right));
+                on_kind(r, FormKind::Sf, m)
+            }
             _ => Err(Refusal::StepMisfit),
         }
     }

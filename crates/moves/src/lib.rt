@@ -1,9 +1,11 @@
 // The eighteen steps, each judged on small values: the phase of the current obligation, the row of its formula, the facts, the counts.
-#![tactic(auto)]
+#![tactic(auto, using(crate::specs::Tests::tests))]
 
-ghost use Rattle.std.specs.Prelude.{◌≡◌, true, false, MatchResult};
+ghost use Rattle.std.specs.Prelude.{◌≡◌, true, false, MatchResult, eqb, leb};
+ghost use Rattle.common.specs.Rows.{kind_number};
+ghost use Rattle.moves.specs.Steps.{pick};
 
-use common::Refusal;
+use common::{FormKind, Refusal, Row};
 use steps::{Principal, World};
 
 mod chunk;
@@ -54,8 +56,25 @@ pub enum Move {
 }
 
 // What a step asks, and the refusal where it is not so.
-pub(crate) fn demand(met: bool, refusal: Refusal) -> Result<(), Refusal>
+fn demand(met: bool, refusal: Refusal) -> Result<(), Refusal>
     ensures { MatchResult result (λ _. met ≡ true) (λ e. (met ≡ false) × (e ≡ refusal)) }
 {
     if met { Ok(()) } else { Err(refusal) }
+}
+
+// A step that asks for a formula of one kind alone,
+fn on_kind(r: Row, kind: FormKind, m: Move) -> Result<Move, Refusal>
+    ensures { result ≡ pick (eqb r.kind (kind_number kind)) (Ok m) (Err Refusal.StepMisfit) }
+{
+    demand(r.is(kind), Refusal::StepMisfit)?;
+    Ok(m)
+}
+
+// and one that makes one more of what there may be `most` of.
+fn with_room(r: Row, kind: FormKind, count: u16, most: u16, m: Move) -> Result<Move, Refusal>
+    ensures { result ≡ pick (eqb r.kind (kind_number kind)) (pick (leb most count) (Err Refusal.LimitPassed) (Ok m)) (Err Refusal.StepMisfit) }
+{
+    demand(r.is(kind), Refusal::StepMisfit)?;
+    demand(count < most, Refusal::LimitPassed)?;
+    Ok(m)
 }
