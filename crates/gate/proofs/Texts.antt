@@ -1,37 +1,11 @@
 -- Laws of a text that grows at its end, which the proofs of the functions that write it cite. Assumes nothing.
-use Prim.Native.Nat.{ℕ, suc, ◌+◌, ◌-◌, ◌^◌, ◌≤◌, ◌<◌}
-use mathlib.Core.Path.{◌≡◌, refl, sym, ap, subst, ◌∙◌}
-use mathlib.Core.List.{List, [], ◌∷◌, ◌++◌, append_assoc, append-nil}
-use native.Mathlib.Nat.{add-zero, pow-le-pow_right, le_of_suc-le-suc, lt_of_not-le}
-use native.Mathlib.Numerals.{add-one}
+use Prim.Native.Nat.{ℕ, ◌-◌, ◌^◌, ◌≤◌, ◌<◌}
+use mathlib.Core.Path.{◌≡◌, refl, ap, subst, ◌∙◌}
+use mathlib.Core.List.{List, [], ◌∷◌, ◌++◌, append_assoc}
+use native.Mathlib.Nat.{pow-le-pow_right, le_of_suc-le-suc, lt_of_not-le}
 use native.Mathlib.Omega.{arith}
-use lib.ListN.{length, get_or, set, take}
-use lib.Seq.{take-suc, take-suc-set, take-length}
 use Rattle.io.specs.Digits.{last_digits, IsDigitCount}
 use Rattle.gate.specs.Shown.{bytes, Line, Longer, Shown}
-
--- None of `bytes` stands there yet.
-pub none_yet : (text bytes : List ℕ) (at : ℕ) → take (at + 0) text ≡ take at text ++ take 0 bytes
-none_yet text bytes at = ap (λ (k : ℕ). take k text) (add-zero at) ∙ sym (append-nil (take at text))
-
--- One byte more of `bytes` stands after `old`.
-pub one_more :
-    (text bytes old : List ℕ) (at i : ℕ) → at + i < length text → i < length bytes → take (at + i) text ≡ old ++ take i bytes
-    → take (at + (i + 1)) (set text (at + i) (get_or bytes i 0)) ≡ old ++ take (i + 1) bytes
-one_more text bytes old at i room there so_far =
-    let byte = get_or bytes i 0 in
-    let next : at + (i + 1) ≡ suc (at + i) = omega arith in
-    ap (λ (k : ℕ). take k (set text (at + i) byte)) next
-    ∙ take-suc-set text (at + i) byte room
-    ∙ ap (λ (l : List ℕ). l ++ (byte ∷ [])) so_far
-    ∙ append_assoc old (take i bytes) (byte ∷ [])
-    ∙ ap (λ (l : List ℕ). old ++ l) (sym (take-suc bytes i 0 there))
-    ∙ ap (λ (k : ℕ). old ++ take k bytes) (sym (add-one i))
-
--- All of `bytes` stands there.
-pub all_there :
-    (bytes old after : List ℕ) (i : ℕ) → i ≡ length bytes → after ≡ old ++ take i bytes → after ≡ old ++ bytes
-all_there bytes old after i all so_far = so_far ∙ ap (λ (k : ℕ). old ++ take k bytes) all ∙ ap (λ (l : List ℕ). old ++ l) (take-length bytes)
 
 -- Twenty digits hold a u64.
 too_many : (n k : ℕ) → IsDigitCount 10 1 n k → n < 2 ^ 64 → 20 < k → ⊥

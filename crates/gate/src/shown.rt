@@ -8,10 +8,10 @@ pub(crate) fn put_printed(printed: gatelib::Printed, text: &mut [u8; 128]) -> us
     ensures prefix_len { IsPrefixLen result text.new }
     ensures shown { Shown printed.answer printed.place printed.steps printed.column (take result text.new) }
 {
-    let answer = wide16(printed.answer);
-    let place = wide32(printed.place);
-    let steps = wide16(printed.steps);
-    let column = wide16(printed.column);
+    let answer = u64::from(printed.answer);
+    let place = u64::from(printed.place);
+    let steps = u64::from(printed.steps);
+    let column = u64::from(printed.column);
     let first = put_line(b"answer=", answer, text, 0);
     let second = put_line(b"place=", place, text, first);
     let third = put_line(b"steps=", steps, text, second);
@@ -37,23 +37,7 @@ fn put_bytes(bytes: &[u8], text: &mut [u8], at: usize) -> usize
     ensures value { result ≡ at + length bytes.now }
     ensures text_after { take result text.new ≡ take at text.old ++ bytes.now }
 {
-    let mut i = 0;
-    while i < bytes.len() {
-        let to = at + i;
-        text[to] = bytes[i];
-        i += 1;
-    }
-    at + i
-}
-
-fn wide16(number: u16) -> u64
-    ensures { result ≡ number }
-{
-    number as u64
-}
-
-fn wide32(number: u32) -> u64
-    ensures { result ≡ number }
-{
-    number as u64
+    let end = at + bytes.len();
+    text[at..end].copy_from_slice(bytes);
+    end
 }

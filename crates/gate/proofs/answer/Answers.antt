@@ -1,6 +1,6 @@
 -- What is judged are the file's first bytes, which are all of it or more than a file may have (`answered`).
 -- Assumes nothing.
-use Rattle.std.proofs.Common.{subst, take, arith, rules}
+use Rattle.std.proofs.Common.{subst, take, arith}
 use Rattle.gatelib.specs.declared.Printed.{Printed}
 use Rattle.gate.specs.Shown.{Shown}
 use Rattle.gate.proofs.Handed.{answered}
@@ -8,16 +8,16 @@ use Rattle.gate.proofs.answer.Goals as goal
 
 pub returns-clause-answered : goal.returns-clause-answered
 returns-clause-answered g c =
-    let input = c.read_input-input in
+    let read = c.in_ok-length in
     let text = take c.put_printed.result c.put_printed.new.text in
     let numbers = λ (p : Printed). Shown p.answer p.place p.steps p.column text in
     answered
     (g.R.Read.remaining c.args.from.now)
-    (g.R.Read.remaining input.new.from)
-    input.new.file
+    (g.R.Read.remaining c.read_input.new.from)
+    c.read_input.new.file
     text
-    input.result.length
+    read.length
     (omega arith)
-    input.ensures.consumed
-    (input.ensures.whole (search rules))
+    read.ensures.consumed
+    read.ensures.whole
     (subst numbers c.gate-printed.ensures c.put_printed.ensures.shown)

@@ -23,10 +23,10 @@ returns c =
           _
           _
           _
-          c.wide16-answer.ensures
-          c.wide32-place.ensures
-          c.wide16-steps.ensures
-          c.wide16-column.ensures
+          c.from-answer.ensures
+          c.from-place.ensures
+          c.from-steps.ensures
+          c.from-column.ensures
           c.put_line-first.ensures.longer
           c.put_line-second.ensures.longer
           c.put_line-third.ensures.longer
