@@ -7,192 +7,91 @@ mod back;
 mod index;
 mod outcome;
 mod report;
+mod tally;
 
-ghost use Rattle.std.specs.Prelude.{◌+◌, ◌<◌, ◌≤◌};
-ghost use Rattle.std.specs.Counts.{IsPrefixLen};
-
-use index::Line;
+use index::Case;
 use outcome::Outcome;
+use std::alloc::Global;
 use std::fs::File;
 use std::io;
-use std::io::Read;
+use std::io::{ErrorKind, Read};
 use std::rt::Files;
+use tally::{Back, Ran, Tally};
 
-// How many bytes of a file were read, and whether it could be opened.
-#[derive(Drop)]
-struct Contents {
-    length: usize,
-    opened: bool,
-}
-
-// How many lines of the index were run, and how many of them differ; how many files were written
-// back, and how many of those changed.
-#[derive(Drop)]
-struct Tally {
-    cases: u64,
-    differ: u64,
-    written: u64,
-    changed: u64,
-}
-
-// What came of a line of the index: whether it differs, whether its file was written back, and
-// whether that changed it.
-#[derive(Drop)]
-struct Ran {
-    differs: bool,
-    written: bool,
-    changed: bool,
-}
+// One byte past the longest file tells that a file is longer.
+const MOST_READ: usize = 65_537;
 
 fn main(rt: HostRuntime) -> io::Result<()> {
-    let mut text = [0u8; 65537];
-    let contents = read_file(&rt, b"index", &mut text);
-    let length = contents.length;
+    let index = read_file(&rt, b"index")?;
     // An index that fills its room may be longer, and the cases past its end would never be run.
-    if length == 0 || length == 65537 {
+    let Some(text) = index.filter(|text| !text.is_empty() && text.len() < MOST_READ) else {
         report::trouble(&rt, b"index", "missing, empty or too long")?;
-        return report::totals(&rt, 0, 1, 0, 0);
-    }
-    let tally = run_index(&rt, &text[..length])?;
-    report::totals(&rt, tally.cases, tally.differ, tally.written, tally.changed)
-}
-
-// Runs each line of the index. A line without its LF may have lost a part, so it is not run.
-fn run_index(rt: &(impl Files + Print), text: &[u8]) -> io::Result<Tally> {
-    let mut cases: u64 = 0;
-    let mut differ: u64 = 0;
-    let mut written: u64 = 0;
-    let mut changed: u64 = 0;
-    let mut at: usize = 0;
-    while at < text.len() {
-        let end = index::find_from(text, at, b'\n');
-        cases += 1;
-        if end == text.len() {
-            report::trouble(rt, &text[at..end], "line of the index without LF")?;
-            differ += 1;
-            return Ok(Tally {
-                cases: cases,
-                differ: differ,
-                written: written,
-                changed: changed,
-            });
-        }
-        let ran = run_line(rt, &text[at..end])?;
-        differ = counted(differ, ran.differs);
-        written = counted(written, ran.written);
-        changed = counted(changed, ran.changed);
-        at = end + 1;
-    }
-    Ok(Tally {
-        cases: cases,
-        differ: differ,
-        written: written,
-        changed: changed,
-    })
-}
-
-// The count, with one more where this is so.
-fn counted(count: u64, more: bool) -> u64
-    requires { count < 18446744073709551615 }
-    ensures { result ≤ count + 1 }
-{
-    if more { count + 1 } else { count }
-}
-
-// Runs the request file that this line of the index names.
-fn run_line(rt: &(impl Files + Print), line: &[u8]) -> io::Result<Ran> {
-    let parsed = index::line_of(line);
-    let Line::Wants(wanted) = parsed else {
-        report::trouble(rt, line, "malformed line of the index")?;
-        return Ok(Ran {
-            differs: true,
-            written: false,
-            changed: false,
-        });
+        let none_run = Tally {
+            differ: 1,
+            ..Tally::default()
+        };
+        return report::totals(&rt, &none_run);
     };
-    run_case(rt, index::to_space(line), wanted)
+    let ran: Vec<Ran> = text
+        .split_inclusive(|byte| *byte == b'\n')
+        .map(|line| run_line(&rt, line))
+        .try_collect(rt.alloc())?;
+    report::totals(&rt, &Tally::of(&ran))
+}
+
+// Runs the request file that this line of the index names. A line without its LF may have lost a part, so it is not run.
+fn run_line(rt: &(impl Files + Print + AllocGlobal), line: &[u8]) -> io::Result<Ran> {
+    let Some(line) = line.strip_suffix(b"\n") else {
+        report::trouble(rt, line, "line of the index without LF")?;
+        return Ok(Ran::FAILED);
+    };
+    let Some(case) = index::case_of(line) else {
+        report::trouble(rt, line, "malformed line of the index")?;
+        return Ok(Ran::FAILED);
+    };
+    let Some(file) = read_file(rt, case.name)? else {
+        report::trouble(rt, case.name, "cannot be opened")?;
+        return Ok(Ran::FAILED);
+    };
+    run_case(rt, &case, &file)
 }
 
 // Judges the request file, and writes it back where it should read.
-fn run_case(rt: &(impl Files + Print), name: &[u8], wanted: Outcome) -> io::Result<Ran> {
-    // One byte past the longest file tells that a file is longer.
-    let mut file = [0u8; 65537];
-    let contents = read_file(rt, name, &mut file);
-    if !contents.opened {
-        report::trouble(rt, name, "cannot be opened")?;
-        return Ok(Ran {
-            differs: true,
-            written: false,
-            changed: false,
-        });
+fn run_case(rt: &impl Print, case: &Case<'_>, file: &[u8]) -> io::Result<Ran> {
+    let got = Outcome::from(gatelib::gate(file));
+    if got != case.wanted {
+        report::difference(rt, case.name, case.wanted, got)?;
     }
-    let length = contents.length;
-    let text = &file[..length];
-    let differs = !judged_as(rt, name, text, wanted)?;
-    let written = back::reads(wanted.answer);
-    let changed = written && !back_same(rt, name, text)?;
+    let back = if !case.wanted.reads() {
+        None
+    } else if back::is_written_back(file) {
+        Some(Back::Same)
+    } else {
+        report::trouble(rt, case.name, "not written back as it stands")?;
+        Some(Back::Changed)
+    };
     Ok(Ran {
-        differs: differs,
-        written: written,
-        changed: changed,
+        as_wanted: got == case.wanted,
+        back,
     })
 }
 
-// Whether judging the file gives what is wanted.
-fn judged_as(rt: &impl Print, name: &[u8], file: &[u8], wanted: Outcome) -> io::Result<bool> {
-    let got = outcome::judged(file);
-    if outcome::same(wanted, got) {
-        return Ok(true);
-    }
-    report::difference(rt, name, wanted, got)?;
-    Ok(false)
-}
-
-// Whether the file is written back as it stands.
-fn back_same(rt: &impl Print, name: &[u8], file: &[u8]) -> io::Result<bool> {
-    if back::written_back(file) {
-        return Ok(true);
-    }
-    report::trouble(rt, name, "not written back as it stands")?;
-    Ok(false)
-}
-
-// Reads the start of a file, as much as there is room for.
-fn read_file(files: &impl Files, name: &[u8], room: &mut [u8]) -> Contents
-    ensures { IsPrefixLen result.length room.new }
-{
+// Reads the start of a file, where it can be opened.
+fn read_file<R: Files + AllocGlobal>(rt: &R, name: &[u8]) -> io::Result<Option<Vec<u8>>> {
     let Ok(path) = str::from_utf8(name) else {
-        return Contents {
-            length: 0,
-            opened: false,
-        };
+        return Ok(None);
     };
-    let Ok(mut file) = File::open(files, path) else {
-        return Contents {
-            length: 0,
-            opened: false,
-        };
+    let Ok(file) = File::open(rt, path) else {
+        return Ok(None);
     };
-    let length = read_full(&mut file, room);
-    Contents {
-        length: length,
-        opened: true,
-    }
+    read_start(file, rt.alloc()).map(Some)
 }
 
-// Reads until the room is full, the input ends or a read fails, and answers how many bytes of the room that filled.
-fn read_full(from: &mut impl Read, room: &mut [u8]) -> usize
-    ensures { IsPrefixLen result room.new }
-{
-    let mut length = 0;
-    while length < room.len() {
-        let Ok(more) = from.read(&mut room[length..]) else {
-            return length;
-        };
-        if more == 0 {
-            return length;
-        }
-        length += more;
+// Reads the start of what a reader gives, to its end or the first read that fails.
+fn read_start<R: Read + Drop>(from: R, alloc: Global) -> io::Result<Vec<u8>> {
+    let mut start = Vec::new(alloc);
+    match from.take(MOST_READ as u64).read_to_end(&mut start) {
+        Err(error) if error.kind() == ErrorKind::OutOfMemory => Err(error),
+        _ => Ok(start),
     }
-    length
 }

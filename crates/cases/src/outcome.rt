@@ -1,53 +1,38 @@
 // What judging a request file gives: the numbers that the gate program prints.
-ghost use Rattle.std.specs.Prelude.{◌≡◌, true};
-ghost use Rattle.cases.specs.Same.{Same};
+use std::fmt;
 
-#[derive(Clone, Copy)]
+#[derive(Clone, Copy, PartialEq, Eq)]
 pub(crate) struct Outcome {
-    pub(crate) answer: u64,
-    pub(crate) place: u64,
-    pub(crate) steps: u64,
-    pub(crate) column: u64,
+    pub(crate) answer: u32,
+    pub(crate) place: u32,
+    pub(crate) steps: u32,
+    pub(crate) column: u32,
 }
 
-pub(crate) fn judged(file: &[u8]) -> Outcome {
-    let printed = gatelib::gate(file);
-    let answer = wide16(printed.answer);
-    let place = wide32(printed.place);
-    let steps = wide16(printed.steps);
-    let column = wide16(printed.column);
-    Outcome {
-        answer: answer,
-        place: place,
-        steps: steps,
-        column: column,
+impl Outcome {
+    // Whether a file with this answer reads: reading refuses with 1 to 6 and 15.
+    pub(crate) fn reads(self) -> bool {
+        !matches!(self.answer, 1..=6 | 15)
     }
 }
 
-// No difference is passed over: what is called the same is the same in all four numbers.
-pub(crate) fn same(wanted: Outcome, got: Outcome) -> bool
-    ensures { result ≡ true → Same wanted got }
-{
-    if wanted.answer != got.answer {
-        return false;
+impl From<gatelib::Printed> for Outcome {
+    fn from(printed: gatelib::Printed) -> Self {
+        Outcome {
+            answer: u32::from(printed.answer),
+            place: printed.place,
+            steps: u32::from(printed.steps),
+            column: u32::from(printed.column),
+        }
     }
-    if wanted.place != got.place {
-        return false;
-    }
-    if wanted.steps != got.steps {
-        return false;
-    }
-    wanted.column == got.column
 }
 
-fn wide16(number: u16) -> u64
-    ensures { result ≡ number }
-{
-    number as u64
-}
-
-fn wide32(number: u32) -> u64
-    ensures { result ≡ number }
-{
-    number as u64
+impl fmt::Display for Outcome {
+    fn fmt<W: fmt::Write>(&self, f: &mut fmt::Formatter<W>) -> fmt::Result {
+        write!(
+            f,
+            "{} {} {} {}",
+            self.answer, self.place, self.steps, self.column
+        )
+    }
 }

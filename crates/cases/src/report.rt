@@ -1,5 +1,6 @@
 // What the program prints.
 use crate::outcome::Outcome;
+use crate::tally::Tally;
 use std::io;
 
 pub(crate) fn difference(
@@ -9,19 +10,7 @@ pub(crate) fn difference(
     got: Outcome,
 ) -> io::Result<()> {
     to.write_all(name)?;
-    print!(to; ": wanted ")?;
-    numbers(to, wanted)?;
-    print!(to; ", got ")?;
-    numbers(to, got)?;
-    println!(to;)
-}
-
-fn numbers(to: &impl Print, outcome: Outcome) -> io::Result<()> {
-    let answer = outcome.answer;
-    let place = outcome.place;
-    let steps = outcome.steps;
-    let column = outcome.column;
-    print!(to; "{answer} {place} {steps} {column}")
+    println!(to; ": wanted {wanted}, got {got}")
 }
 
 // A case that could not be compared counts as one that differs, and this says why.
@@ -30,13 +19,7 @@ pub(crate) fn trouble(to: &impl Print, name: &[u8], why: &str) -> io::Result<()>
     println!(to; ": {why}")
 }
 
-pub(crate) fn totals(
-    to: &impl Print,
-    cases: u64,
-    differ: u64,
-    written: u64,
-    changed: u64,
-) -> io::Result<()> {
-    println!(to; "{cases} cases, {differ} differ")?;
-    println!(to; "{written} written back, {changed} differ")
+pub(crate) fn totals(to: &impl Print, tally: &Tally) -> io::Result<()> {
+    println!(to; "{} cases, {} differ", tally.cases, tally.differ)?;
+    println!(to; "{} written back, {} differ", tally.written, tally.changed)
 }
