@@ -19,9 +19,13 @@ pub record Says (c : Class) (goal policy clause chunk : Bool) : Type 0 where
   pub clauses : clause_in c ≡ clause
   pub chunks : chunk_in c ≡ chunk
 
+pub flags_say : (goal policy clause chunk : Bool) →
+    Says (record { goal = goal; policy = policy; clause = clause; chunk = chunk }) goal policy clause chunk
+flags_say goal policy clause chunk = record { goals = refl; policies = refl; clauses = refl; chunks = refl }
+
 pub class_says : (f : Form) → Says (class_of f) (is_goal f) (is_policy f) (is_clause f) (is_chunk f)
 unfolding class_of
-class_says f = record { goals = refl; policies = refl; clauses = refl; chunks = refl }
+class_says f = flags_say (is_goal f) (is_policy f) (is_clause f) (is_chunk f)
 
 -- A clause is a policy line, and `and`, `imp` and `says` are no `sf`.
 either_false : (b : Bool) → either b false ≡ b
