@@ -1,3 +1,4 @@
 pub mod Exact
 pub mod Grown
+pub mod Made
 pub mod Noted

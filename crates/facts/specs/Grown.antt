@@ -1,15 +1,12 @@
 -- What the stores of the code make of a new world, by the edge that leads to it, and that the rows of older worlds stand. What they tell is proofs/Grown.
-use Rattle.std.specs.Prelude.{ℕ, ◌+◌, ◌≤◌, ◌<◌, Bool, true, false, ◌≡◌, refl, List, length, get_or, replicate}
+use Rattle.std.specs.Prelude.{ℕ, ◌+◌, ◌≤◌, Bool, true, ◌≡◌, refl, List, get_or}
 use Rattle.std.proofs.Common.{ap, ◌∙◌}
-use Rattle.std.proofs.lemmas.List.{length-replicate, get_or-replicate}
-use Rattle.std.proofs.lemmas.Nat.{or_comm}
 use Rattle.std.specs.Int.Bits.{bit_or}
 use Rattle.scope.specs.Tools.Tests.{never}
 use Rattle.scope.specs.Logic.Facts.{Logic, plain, unit, is_unit}
-use Rattle.facts.specs.Rows.{principals_max, le_at, up_at, by_at, block, put_block, sf_rows, lead_row, over_row, seen_row, under_row, beside_row, grown_row, new_world, grown_le, grown_by}
+use Rattle.facts.specs.Rows.{principals_max, le_at, up_at, by_at, sf_rows, lead_row, over_row, seen_row, under_row, beside_row, grown_row, new_world, grown_le, grown_by}
 use Rattle.facts.specs.Fill.{fill, fill_same}
 use Rattle.facts.specs.Bits.{when}
-use Rattle.facts.specs.Block.{block_length, block_row, put_filled}
 use Rattle.facts.specs.Kept.{Agree}
 use Rattle.facts.specs.NewRows.{new_agree, over_still}
 
@@ -23,50 +20,6 @@ pub is_unit_lem : {l : Logic} → l ≡ unit → is_unit l ≡ true
 is_unit_lem e = rw e refl
 
 -- What the stores of the code make of rows r.
-pub made_le : (r : List ℕ) (u n : ℕ) {l w : ℕ} {x y s : List ℕ} → l ≡ get_or r (le_at u) 0 → w ≡ lead_row r u → s ≡ block r (by_at u) →
-    y ≡ new_world r u n l w → x ≡ put_block y (by_at n) s → x ≡ grown_le r u n
-unfolding grown_le
-made_le r u n {l} {w} hl hw hs hy hx =
-    let y = new_world r u n (get_or r (le_at u) 0) (lead_row r u) in
-    rw (hs, hy, hl, hw) at hx ∙
-    fill_same (λ c. get_or (block r (by_at u)) c 0) (over_row r u) (by_at n) principals_max y (λ c h. block_row r (by_at u) c h)
-
--- What the logic adds of the world behind which the new one stands: with unit its row of ≤ and its rows of S, and in plain none.
-pub record Beside (t : Bool) (r : List ℕ) (u l : ℕ) (z : List ℕ) : Type 0 where
-  pub less : l ≡ under_row t r u
-  pub size : length z ≡ principals_max
-  pub rows : (c : ℕ) → c < principals_max → get_or z c 0 ≡ beside_row t r u c
-
-pub beside_unit : (r : List ℕ) (u : ℕ) {l : ℕ} {z : List ℕ} → l ≡ get_or r (le_at u) 0 → z ≡ block r (by_at u) → Beside true r u l z
-beside_unit r u hl hz =
-    record {
-      less = hl;
-      size = rw hz (block_length r (by_at u));
-      rows = λ c h. rw hz (block_row r (by_at u) c h);
-    }
-
-pub beside_plain : (r : List ℕ) (u : ℕ) → Beside false r u 0 (replicate principals_max 0)
-beside_plain r u =
-    record {
-      less = refl;
-      size = length-replicate {A = ℕ} principals_max 0;
-      rows = λ c h. get_or-replicate {A = ℕ} principals_max c 0 0 h;
-    }
-
-pub made_by : (t : Bool) (r : List ℕ) (a u n : ℕ) {l w c : ℕ} {x y s z saved : List ℕ} → saved ≡ sf_rows r u → w ≡ get_or r (up_at u) 0 →
-    Beside t r u l z → c ≡ principals_max → s ≡ fill (λ i. bit_or (get_or z i 0) (seen_row saved w a i)) 0 c z → y ≡ new_world r u n l w →
-    x ≡ put_block y (by_at n) s → x ≡ grown_by t r a u n
-unfolding grown_by
-made_by t r a u n {z = z} hv hw b hc hs hy hx =
-    let ways = get_or r (up_at u) 0 in
-    let y = new_world r u n (under_row t r u) ways in
-    let f = λ (i : ℕ). bit_or (get_or z i 0) (seen_row (sf_rows r u) ways a i) in
-    rw (hy, b.less, hw) at hx ∙
-    put_filled f y (by_at n) _ z b.size hc (rw (hv, hw) at hs) ∙
-    fill_same f (grown_row t r a u) (by_at n) principals_max y
-    (λ i h. or_comm (get_or z i 0) (seen_row (sf_rows r u) ways a i) ∙ ap (λ k. bit_or (seen_row (sf_rows r u) ways a i) k) (b.rows i h))
-
--- The same of rows of S that are stored one after the other, over the first two of the new world.
 pub stored_le : (r : List ℕ) (u n : ℕ) {l w from at c : ℕ} {x s : List ℕ} → l ≡ get_or r (le_at u) 0 → w ≡ lead_row r u →
     s ≡ new_world r u n l w → from ≡ by_at u → at ≡ by_at n → c ≡ principals_max → x ≡ fill (λ (i : ℕ). get_or s (from + i) 0) at c s →
     x ≡ grown_le r u n

@@ -1,20 +1,12 @@
 -- A note in rows: what the stores of the code come to, and that no other row changes. What the rows tell then is proofs/Noted.
 use Rattle.std.specs.Prelude.{ℕ, suc, ◌≤◌, ◌≡◌, List, get_or}
 use Rattle.std.specs.Int.Bits.{bit_or}
-use Rattle.std.proofs.Common.{◌∙◌}
 use Rattle.facts.specs.Fill.{fill}
-use Rattle.facts.specs.Rows.{principals_max, sf_at, sf_rows, put_sf, speaks_in, noted_row, noted}
+use Rattle.facts.specs.Rows.{principals_max, sf_at, sf_rows, speaks_in, noted_row, noted}
 use Rattle.facts.specs.Bits.{when}
-use Rattle.facts.specs.Block.{put_filled}
-use Rattle.facts.specs.Kept.{Agree, agree_fill, sf_length}
+use Rattle.facts.specs.Kept.{Agree, agree_fill}
 
 -- What the stores of the code make of rows r.
-pub made_note : (r : List ℕ) (m a b : ℕ) {more c : ℕ} {x s z : List ℕ} → z ≡ sf_rows r m → more ≡ get_or z b 0 → c ≡ principals_max →
-    s ≡ fill (λ i. bit_or (get_or z i 0) (when (speaks_in z i a) more)) 0 c z → x ≡ put_sf r m s → x ≡ noted r m a b
-unfolding noted put_sf
-made_note r m a b {c = c} hz hm hc hs hx = hx ∙ put_filled (noted_row (sf_rows r m) a b) r (sf_at m) c (sf_rows r m) (sf_length r m) hc (rw (hm, hz) at hs)
-
--- The same of rows that are stored one after the other.
 pub stored_note : (r : List ℕ) (m a b : ℕ) {more at c : ℕ} {x s : List ℕ} → s ≡ sf_rows r m → more ≡ get_or s b 0 → at ≡ sf_at m →
     c ≡ principals_max → x ≡ fill (λ i. bit_or (get_or s i 0) (when (speaks_in s i a) more)) at c r → x ≡ noted r m a b
 unfolding noted

@@ -20,6 +20,7 @@ pub const PRINCIPALS: usize = MOST_PRINCIPALS as usize;
 // The rows that lead to a world: one of ≤, one of its ancestors, PRINCIPALS of S, PRINCIPALS of sf.
 const EACH: usize = 2 + 2 * PRINCIPALS;
 
+// How far into a world's rows each of these begins.
 const LE: u16 = 0;
 
 const UP: u16 = 1;
@@ -39,7 +40,7 @@ pub struct Facts {
 fn place_of(v: World, part: u16) -> usize
     ensures { result ≡ row_at v.0 part }
 {
-    v.0 as usize * EACH + part as usize
+    usize::from(v.0) * EACH + usize::from(part)
 }
 
 // The bit of a number in a row, and the row with that bit alone.
@@ -71,7 +72,7 @@ impl Facts {
         ensures { result ≡ named_row self.now.rows (row_at v.0 part) a.0 }
     {
         if a.0 < MOST_PRINCIPALS {
-            value_at(&self.rows, place_of(v, part) + a.0 as usize, 0)
+            value_at(&self.rows, place_of(v, part) + usize::from(a.0), 0)
         } else {
             0
         }
@@ -100,7 +101,8 @@ impl Facts {
         }
     }
 
-    // Is u ≤ v, u S_a v, u: a sf b among the closed facts?
+    // Is u ≤ v, u S_a v, u: a sf b among the closed facts? The last two ask for a world, and for a principal: as one function they would
+    // take a bare number for either.
     #[tactic(auto, unfolding(crate::specs::Rows::told))]
     pub fn has_le(&self, u: World, v: World) -> bool
         ensures { result ≡ told self.now.rows (le u.0 v.0) }
@@ -200,7 +202,7 @@ impl Facts {
         ensures { self.new.rows ≡ noted self.old.rows m.0 a.0 b.0 }
     {
         let mut rows = self.sf_rows(m);
-        let more = value_at(&rows, b.0 as usize, 0);
+        let more = value_at(&rows, usize::from(b.0), 0);
         for row in rows.iter_mut() {
             if bit_of(*row, a.0) {
                 *row |= more;

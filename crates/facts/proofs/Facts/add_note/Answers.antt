@@ -2,7 +2,7 @@
 use Rattle.std.proofs.Common.{◌≡◌, refl, sym, ◌∙◌, arith}
 use Rattle.std.specs.Int.Bits.{or_zero_r}
 use Rattle.facts.specs.Rows.{principals_max}
-use Rattle.facts.specs.Noted.{made_note}
+use Rattle.facts.proofs.Made.{made_note}
 use Rattle.facts.specs.Fill.{fill, fill_front, fill_still}
 use Rattle.facts.proofs.Facts.add_note.Goals as goal
 use Rattle.facts.proofs.Facts.add_note.Goals.{then-bit_of, else-bit_of}
@@ -22,4 +22,4 @@ loop-row-preserved c =
 pub returns : goal.returns
 returns c =
     let done : c.loop-row.row-index ≡ principals_max = omega arith in
-    made_note _ _ _ _ c.sf_rows-rows.ensures c.value_at-more.ensures done c.loop-row.invariant c.put_sf.ensures
+    made_note _ _ _ _ c.sf_rows-rows.ensures (rw c.from.ensures at c.value_at-more.ensures) done c.loop-row.invariant c.put_sf.ensures

@@ -2,7 +2,7 @@
 use Rattle.std.proofs.Common.{◌≡◌, refl, sym, ◌∙◌, arith}
 use Rattle.std.specs.Int.Bits.{or_zero_r}
 use Rattle.facts.specs.Rows.{principals_max}
-use Rattle.facts.specs.Grown.{Beside, made_by, beside_unit, beside_plain}
+use Rattle.facts.proofs.Made.{Beside, made_by, beside_unit, beside_plain}
 use Rattle.facts.specs.Fill.{fill, fill_front, fill_still}
 use Rattle.facts.proofs.Facts.grow_by.Goals as goal
 use Rattle.facts.proofs.Facts.grow_by.Goals.{then-bit_of, else-bit_of, then-unit, else-unit}

@@ -1,5 +1,5 @@
 -- The rows are the definition's: those of u as they stood before.
-use Rattle.facts.specs.Grown.{made_le}
+use Rattle.facts.proofs.Made.{made_le}
 use Rattle.facts.proofs.Facts.grow_le.Goals as goal
 
 pub returns : goal.returns
