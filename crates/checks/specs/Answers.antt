@@ -8,7 +8,8 @@ use Rattle.scope.specs.Limits.{version_at, principals_at, atoms_at, formulas_at,
 use Rattle.scope.specs.File.Refusals.{demand, version_refusal, unit_refusal, principals_refusal, atoms_refusal, formulas_refusal, steps_refusal, step_refusal, form_refusal}
 use Rattle.scope.specs.Call.Checked.{each_of}
 use Rattle.scope.specs.Call.Tables.{has_room}
-use Rattle.classes.specs.Class.{goal_in, policy_in}
+use Rattle.classes.specs.declared.Class.{Class}
+use Rattle.classes.specs.Class.{no_class, goal_in, policy_in}
 
 -- Before the lines that follow it: the room, unit told with version 1, and the version.
 unfoldable pub head_answers : ℕ → ℕ → ℕ → ℕ → Logic → List Answer
@@ -32,13 +33,13 @@ form_answer principals atoms before r = answer (form_refusal principals atoms be
 unfoldable pub form_answers : ℕ → ℕ → List Row → List Answer
 form_answers principals atoms rows = each_of (form_answer principals atoms) [] rows
 
-unfoldable pub policy_answers : List ℕ → ℕ → List ℕ → List Answer
+unfoldable pub policy_answers : List Class → ℕ → List ℕ → List Answer
 policy_answers classes formulas fs =
-    each_of (λ before f. answer (class_refusal policy_in 0 classes formulas f) (clause_at formulas (length before))) [] fs
+    each_of (λ before f. answer (class_refusal policy_in no_class classes formulas f) (clause_at formulas (length before))) [] fs
 
-unfoldable pub goal_answers : List ℕ → ℕ → ℕ → ℕ → ℕ → List Answer
+unfoldable pub goal_answers : List Class → ℕ → ℕ → ℕ → ℕ → List Answer
 goal_answers classes formulas policy goal steps =
-    answer (class_refusal goal_in 0 classes formulas goal) (goal_at formulas policy) ∷
+    answer (class_refusal goal_in no_class classes formulas goal) (goal_at formulas policy) ∷
     answer (steps_refusal steps) (steps_at formulas policy) ∷
     []
 

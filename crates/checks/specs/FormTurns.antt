@@ -14,9 +14,7 @@ use Rattle.numbering.specs.Slots.{most_slots, place_in, kept_at, earlier_at}
 use Rattle.numbering.specs.Numbered.{Numbered, numbered_none}
 use Rattle.numbering.specs.Refused.{repeat_refusal, repeat_told, neither_refused}
 use Rattle.numbering.proofs.Refused.{fresh_kept}
-use Rattle.checks.specs.declared.Checked.{Checked}
-use Rattle.checks.specs.declared.Checked.TheVariants.{Fine}
-use Rattle.checks.specs.Met.{checked_of, met_in}
+use Rattle.checks.specs.Met.{Checked, Fine, checked_of, met_in}
 use Rattle.checks.specs.MetLaws.{Passed, passed_none, Turn, turn_of, turn_go, met_one, met_back, fine_none}
 use Rattle.checks.specs.Answers.{count_answers, form_answers}
 use Rattle.checks.specs.Sections.{forms_length, form_at_lem}

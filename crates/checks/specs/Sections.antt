@@ -1,6 +1,7 @@
 -- The answers about the things of a table: as many as there are things, and answer i is that about thing i.
-use Rattle.std.specs.Prelude.{ℕ, zero, suc, ◌+◌, ◌*◌, ◌<◌, ◌≤◌, ◌≡◌, refl, List, [], ◌∷◌, ◌++◌, Bool, true, false, length, get_or, take, drop, ltb}
+use Rattle.std.specs.Prelude.{ℕ, zero, suc, ◌+◌, ◌*◌, ◌<◌, ◌≤◌, ◌≡◌, refl, List, [], ◌∷◌, ◌++◌, Bool, true, false, length, get_or, take, drop, ltb, eqb}
 use Rattle.std.proofs.Common.{not-suc-le-zero, le_of_suc-le-suc, arith, ap, sym, ◌∙◌, append-nil, append_assoc, drop_of_length-le, drop-cons, add-one, ne_eqb}
+use Rattle.std.specs.List.{list_all}
 use Rattle.scope.specs.File.Request.{Row}
 use Rattle.scope.specs.Call.Answer.{Answer, answer}
 use Rattle.scope.specs.Limits.{form_at, clause_at, step_at}
@@ -8,7 +9,8 @@ use Rattle.scope.specs.Tools.Tests.{demand_both}
 use Rattle.scope.specs.File.Refusals.{demand, form_refusal, step_refusal}
 use Rattle.scope.specs.Call.Checked.{each_of, all_zero, past_zero}
 use Rattle.scope.specs.Call.Tables.{Lent, Entry, unpack, form_entry, policy_entry, step_entry}
-use Rattle.classes.specs.Class.{policy_in}
+use Rattle.classes.specs.declared.Class.{Class}
+use Rattle.classes.specs.Class.{no_class, policy_in}
 use Rattle.classes.specs.Rows.{unpack_at, unpack_before, unpack_length, number_at, form_row, form_row_lem}
 use Rattle.checks.specs.MetLaws.{answer_at}
 use Rattle.refusals.specs.Rows.{class_refusal}
@@ -56,17 +58,17 @@ form_at_lem p a n t i h =
     section_at form_entry (form_answer p a) n t i h ∙ ap (form_answer p a (unpack form_entry i t)) (form_row_lem t i) ∙
     ap (λ m. answer (form_refusal p a (unpack form_entry i t) (form_row t i)) (form_at m)) (unpack_length form_entry i t)
 
-pub lines_length : (cs : List ℕ) (m n : ℕ) (t : List ℕ) → length (policy_answers cs m (unpack policy_entry n t)) ≡ n
+pub lines_length : (cs : List Class) (m n : ℕ) (t : List ℕ) → length (policy_answers cs m (unpack policy_entry n t)) ≡ n
 unfolding policy_answers
-lines_length cs m n t = section_length policy_entry (λ b f. answer (class_refusal policy_in 0 cs m f) (clause_at m (length b))) n t
+lines_length cs m n t = section_length policy_entry (λ b f. answer (class_refusal policy_in no_class cs m f) (clause_at m (length b))) n t
 
-pub line_at : (cs : List ℕ) (m n : ℕ) (t : List ℕ) (i : ℕ) → i < n →
-    answer_at (policy_answers cs m (unpack policy_entry n t)) i ≡ answer (class_refusal policy_in 0 cs m (get_or t i 0)) (clause_at m i)
+pub line_at : (cs : List Class) (m n : ℕ) (t : List ℕ) (i : ℕ) → i < n →
+    answer_at (policy_answers cs m (unpack policy_entry n t)) i ≡ answer (class_refusal policy_in no_class cs m (get_or t i 0)) (clause_at m i)
 unfolding policy_answers
 line_at cs m n t i h =
-    section_at policy_entry (λ b f. answer (class_refusal policy_in 0 cs m f) (clause_at m (length b))) n t i h ∙
-    ap (λ (j : ℕ). answer (class_refusal policy_in 0 cs m (policy_entry.get (take 1 (drop (1 * i) t)))) (clause_at m j)) (unpack_length policy_entry i t) ∙
-    ap (λ (f : ℕ). answer (class_refusal policy_in 0 cs m f) (clause_at m i)) (number_at t 1 i 0 i (omega arith) (omega arith))
+    section_at policy_entry (λ b f. answer (class_refusal policy_in no_class cs m f) (clause_at m (length b))) n t i h ∙
+    ap (λ (j : ℕ). answer (class_refusal policy_in no_class cs m (policy_entry.get (take 1 (drop (1 * i) t)))) (clause_at m j)) (unpack_length policy_entry i t) ∙
+    ap (λ (f : ℕ). answer (class_refusal policy_in no_class cs m f) (clause_at m i)) (number_at t 1 i 0 i (omega arith) (omega arith))
 
 abbrev pub step_row : List ℕ → ℕ → Row
 step_row t i = record { kind = get_or t (2 * i) 0; left = get_or t (2 * i + 1) 0; right = 0 }
@@ -105,6 +107,21 @@ pub zeros_end : (t : List ℕ) (i : ℕ) → length t ≤ i → all_zero (drop i
 unfolding all_zero
 zeros_end t i h = rw (drop_of_length-le t h) refl
 
+pub zeros_all : (t : List ℕ) → list_all (λ x. eqb x 0) t ≡ all_zero t
+unfolding all_zero
+zeros_all [] = refl
+zeros_all (zero ∷ t) = zeros_all t
+zeros_all (suc n ∷ t) = refl
+
+-- The three tables past their counts, one after the other.
+pub past_three : (t : Lent) →
+    demand (past_zero t) 3 0 ≡
+    demand (list_all (λ n. eqb n 0) (drop (3 * t.formulas) t.form_table)) 3
+    (demand (list_all (λ n. eqb n 0) (drop t.policy t.policy_table)) 3
+    (demand (list_all (λ n. eqb n 0) (drop (2 * t.steps) t.step_table)) 3 0))
+unfolding past_zero
+past_three t = rw (zeros_all (drop (3 * t.formulas) t.form_table), zeros_all (drop t.policy t.policy_table), zeros_all (drop (2 * t.steps) t.step_table), demand_both, demand_both) refl
+
 -- The three tables past their counts, the last asked first.
 pub past_asked : (t : Lent) {steps policy forms : Bool} {k m r : ℕ} →
     steps ≡ all_zero (drop (2 * t.steps) t.step_table) → k ≡ demand steps 3 0 →
@@ -114,8 +131,8 @@ pub past_asked : (t : Lent) {steps policy forms : Bool} {k m r : ℕ} →
 unfolding past_zero
 past_asked t s k l m f r = rw (demand_both, demand_both) (rw (s, l, f) at (r ∙ ap (demand _ 3) (m ∙ ap (demand _ 3) k)))
 
--- A formula that a line names: its class byte, the test of it, and the two demands.
-pub class_asked : (test : ℕ → Bool) (cs : List ℕ) (n f : ℕ) {class k r : ℕ} {asked : Bool} →
-    class ≡ get_or cs f 0 → asked ≡ test class → k ≡ demand asked 5 0 → r ≡ demand (ltb f n) 3 k → r ≡ class_refusal test 0 cs n f
+-- A formula that a line names: its classes, the test of them, and the two demands.
+pub class_asked : {C : Type 0} (test : C → Bool) (none : C) (cs : List C) (n f : ℕ) {class : C} {k r : ℕ} {asked : Bool} →
+    class ≡ get_or cs f none → asked ≡ test class → k ≡ demand asked 5 0 → r ≡ demand (ltb f n) 3 k → r ≡ class_refusal test none cs n f
 unfolding class_refusal
-class_asked test cs n f c a k r = r ∙ ap (demand (ltb f n) 3) (k ∙ ap (λ (b : Bool). demand b 5 0) (a ∙ ap test c))
+class_asked test none cs n f c a k r = r ∙ ap (demand (ltb f n) 3) (k ∙ ap (λ (b : Bool). demand b 5 0) (a ∙ ap test c))

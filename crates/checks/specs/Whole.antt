@@ -1,6 +1,6 @@
 -- The checks of document 01 over lent tables, part by part: room, logic and version; counts and formulas, policy lines, goal and steps, which
 -- stand further down in version 2; and what is past the counts.
-use Rattle.std.specs.Prelude.{ℕ, ◌≤◌, ◌<◌, ◌≡◌, refl, List, [], ◌∷◌, ◌++◌, map, Bool, true, false, length, get_or, leb, ltb}
+use Rattle.std.specs.Prelude.{ℕ, ◌≤◌, ◌<◌, ◌≡◌, refl, List, [], ◌∷◌, ◌++◌, Err, map, Bool, true, false, length, get_or, leb, ltb}
 use Rattle.std.proofs.Common.{arith, ap, sym, ◌∙◌, append_assoc, append-nil, ltb-true, leb-true}
 use Rattle.scope.specs.Logic.Form.{both}
 use Rattle.scope.specs.File.Request.{goal_class, policy_class}
@@ -9,14 +9,13 @@ use Rattle.scope.specs.Limits.{extra_lines, clauses_at, clause_at, goal_at, step
 use Rattle.scope.specs.File.Refusals.{demand, count_refusal, principals_refusal, atoms_refusal, formulas_refusal, clauses_refusal, clause_refusal, goal_refusal, steps_refusal}
 use Rattle.scope.specs.Call.Checked.{each_of, first_met, body_answers, line_answers, past_zero, checked}
 use Rattle.scope.specs.Call.Tables.{Lent, unpack, form_entry, policy_entry, step_entry, request_of}
-use Rattle.classes.specs.Class.{goal_in, policy_in, class_table}
+use Rattle.classes.specs.declared.Class.{Class}
+use Rattle.classes.specs.Class.{no_class, goal_in, policy_in, class_table}
 use Rattle.classes.specs.Rows.{unpack_length}
 use Rattle.classes.specs.Laws.{goal_at_lem, policy_at}
 use Rattle.common.specs.declared.refused.Answer.{Answer as Returned}
-use Rattle.checks.specs.Met.{answer_in, checked_of, met_in, down_of}
+use Rattle.checks.specs.Met.{Checked, Fine, answer_in, checked_of, met_in, down_of}
 use Rattle.checks.specs.MetLaws.{first_answer, met_down, met_stop, met_go, met_front, met_back, met_one, fine_none}
-use Rattle.checks.specs.declared.Checked.{Checked}
-use Rattle.checks.specs.declared.Checked.TheVariants.{Fine, Refused}
 use Rattle.refusals.specs.Rows.{class_refusal}
 use Rattle.checks.specs.Answers.{head_answers, count_answers, form_answers, policy_answers, goal_answers, step_answers}
 
@@ -36,12 +35,12 @@ abbrev pub form_part : Lent → List Answer
 form_part t = count_answers t.principals t.atoms t.formulas ++ form_answers t.principals t.atoms (unpack form_entry t.formulas t.form_table)
 
 -- The count of policy lines, and those lines.
-abbrev pub line_part : Lent → List ℕ → List Answer
+abbrev pub line_part : Lent → List Class → List Answer
 line_part t classes =
     (answer (clauses_refusal t.policy) (clauses_at t.formulas) ∷ []) ++ policy_answers classes t.formulas (unpack policy_entry t.policy t.policy_table)
 
 -- The goal, the count of steps, and the steps.
-abbrev pub step_part : Lent → List ℕ → List Answer
+abbrev pub step_part : Lent → List Class → List Answer
 step_part t classes =
     goal_answers classes t.formulas t.policy t.goal t.steps ++ step_answers t.formulas t.policy (unpack step_entry t.steps t.step_table)
 
@@ -111,22 +110,22 @@ unfolding met_in
 checked_answer t =
     ap (λ (a : Answer). answer_in (checked_of a)) (asked_parts t) ∙ first_answer (head_part t ++ (down_part t ++ past_part t)) ∙ sym (asked_parts t)
 
--- The class of a formula below the count, from its class byte.
-class_go : (b : Bool) (test : ℕ → Bool) (classes : List ℕ) (n f : ℕ) (class : Bool) → ltb f n ≡ b →
-    (f < n → test (get_or classes f 0) ≡ class) → demand b 3 (demand class 5 0) ≡ demand b 3 (demand (test (get_or classes f 0)) 5 0)
+-- The class of a formula below the count, from its classes.
+class_go : (b : Bool) (test : Class → Bool) (classes : List Class) (n f : ℕ) (class : Bool) → ltb f n ≡ b →
+    (f < n → test (get_or classes f no_class) ≡ class) → demand b 3 (demand class 5 0) ≡ demand b 3 (demand (test (get_or classes f no_class)) 5 0)
 unfolding demand
 class_go true test classes n f class e h = ap (λ (c : Bool). demand c 5 0) (sym (h (ltb-true f n e)))
 class_go false test classes n f class e h = refl
 
 clause_refusal_lem : (t : List ℕ) (n f : ℕ) → n ≤ most_formulas →
-    clause_refusal (unpack form_entry n t) f ≡ class_refusal policy_in 0 (class_table t n) n f
+    clause_refusal (unpack form_entry n t) f ≡ class_refusal policy_in no_class (class_table t n) n f
 unfolding clause_refusal class_refusal
 clause_refusal_lem t n f h =
     rw (unpack_length form_entry n t)
     (class_go (ltb f n) policy_in (class_table t n) n f (policy_class (unpack form_entry n t) f) refl (policy_at t n f h))
 
 goal_refusal_lem : (t : List ℕ) (n f : ℕ) → n ≤ most_formulas →
-    goal_refusal (unpack form_entry n t) f ≡ class_refusal goal_in 0 (class_table t n) n f
+    goal_refusal (unpack form_entry n t) f ≡ class_refusal goal_in no_class (class_table t n) n f
 unfolding goal_refusal class_refusal
 goal_refusal_lem t n f h =
     rw (unpack_length form_entry n t)
@@ -140,7 +139,7 @@ later_parts t h =
     let forms = unpack form_entry n t.form_table in
     let classes = class_table t.form_table n in
     ap (λ (line : ℕ → ℕ). asked t line (goal_refusal forms t.goal)) (λ i f. clause_refusal_lem t.form_table n f h i) ∙
-    ap (λ (goal : ℕ). asked t (class_refusal policy_in 0 classes n) goal) (goal_refusal_lem t.form_table n t.goal h)
+    ap (λ (goal : ℕ). asked t (class_refusal policy_in no_class classes n) goal) (goal_refusal_lem t.form_table n t.goal h)
   where
     asked : Lent → (ℕ → ℕ) → ℕ → List Answer
     asked t line goal =
@@ -170,7 +169,7 @@ past_met t g e = e ∙ sym (met_one (answer (demand (past_zero t) 3 0) 0))
 
 -- Part by part: a part's refusal is the answer, where the parts before it are fine. Of the lines,
 module _ (t : Lent) (forms : Checked) (formed : forms ≡ met_in (form_part t)) where
-  pub forms_stop : (r : Returned) → forms ≡ Refused r → forms ≡ met_in (body_part t)
+  pub forms_stop : (r : Returned) → forms ≡ Err r → forms ≡ met_in (body_part t)
   forms_stop r e = met_stop (form_part t) (later t) forms r formed e ∙ ap met_in (sym (body_parts t))
 
   pub after_forms : forms ≡ Fine →
@@ -182,14 +181,14 @@ module _ (t : Lent) (forms : Checked) (formed : forms ≡ met_in (form_part t)) 
 
 -- and of the whole, where the answer about the lines is moved to where they stand.
 module _ (t : Lent) (head : Checked) (headed : head ≡ met_in (head_part t)) where
-  pub head_stop : (r : Returned) → head ≡ Refused r → head ≡ checked_of (checked t)
+  pub head_stop : (r : Returned) → head ≡ Err r → head ≡ checked_of (checked t)
   head_stop r e = met_stop (head_part t) (down_part t ++ past_part t) head r headed e ∙ sym (checked_parts t)
 
   module _ (fine : head ≡ Fine) (body down : Checked) (bodied : body ≡ met_in (body_part t)) (moved : down ≡ down_of (extra_lines t.version) body) where
     down_met : down ≡ met_in (down_part t)
     down_met = moved ∙ ap (down_of (extra_lines t.version)) bodied ∙ met_down (extra_lines t.version) (body_part t)
 
-    pub down_stop : (r : Returned) → down ≡ Refused r → down ≡ checked_of (checked t)
+    pub down_stop : (r : Returned) → down ≡ Err r → down ≡ checked_of (checked t)
     down_stop r e =
         met_stop (down_part t) (past_part t) down r down_met e ∙ met_go (head_part t) (down_part t ++ past_part t) head headed fine ∙ sym (checked_parts t)
 

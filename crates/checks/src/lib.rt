@@ -2,292 +2,209 @@
 // then 3 at place 0 for a nonzero entry past the counts. The first met is the answer.
 #![tactic(auto)]
 
-ghost use Rattle.std.specs.Prelude.{◌≡◌, [], drop, ◌≤◌};
+ghost use Rattle.std.specs.Prelude.{◌≡◌, [], drop, eqb, ◌≤◌};
+ghost use Rattle.std.specs.List.{list_all};
 ghost use Rattle.scope.specs.Call.Answer.{answer};
 ghost use Rattle.scope.specs.File.Refusals.{demand, row_refusal, first_of};
-ghost use Rattle.scope.specs.Call.Checked.{all_zero, body_answers, past_zero, checked, line_answer};
+ghost use Rattle.scope.specs.Call.Checked.{body_answers, past_zero, checked, line_answer};
 ghost use Rattle.scope.specs.Call.Tables.{has_room, unpack, form_entry, policy_entry, step_entry, request_of};
-ghost use Rattle.checks.specs.Met.{checked_of, met_in, down_of, place_of, lent_with};
 ghost use Rattle.scope.specs.Limits.{most_formulas, form_at};
 ghost use Rattle.scope.specs.File.Kinds.{form_kinds, logic_of};
+ghost use Rattle.common.specs.Refused.{refusal_in};
+ghost use Rattle.common.specs.Rows.{as_row};
 ghost use Rattle.numbering.specs.Refused.{repeat_refusal};
+ghost use Rattle.checks.specs.Met.{checked_of, met_in, down_of, place_of, lent_with};
 ghost use Rattle.checks.specs.Answers.{head_answers, count_answers, form_answers, policy_answers, step_answers};
-ghost use Rattle.refusals.specs.Rows.{row};
 ghost use Rattle.checks.specs.Whole.{form_part, line_part, step_part};
 
-use common::{Answer, Counts};
-use numbering::{Earlier, SLOTS};
+use classes::Class;
+use common::{Answer, Counts, Refusal, Row, value_at};
+use numbering::SLOTS;
 
 mod rows;
 
-#[derive(Clone, Copy)]
-pub enum Checked {
-    Fine,
-    Refused(Answer),
-}
+// The step `top`.
+const TOP: u16 = 5;
 
-fn answer_at(number: u16, place: u32) -> Checked
-    ensures { result ≡ checked_of (answer number place) }
+// A refusal at the place where it is met.
+#[tactic(auto, using(crate::specs::MetLaws::refused_line), unfolding(crate::specs::Met::checked_of, common::specs::Refused::refusal_in))]
+fn at_line(refused: Result<(), Refusal>, place: u32) -> Result<(), Answer>
+    ensures { result ≡ checked_of (answer (refusal_in refused) place) }
 {
-    if number == 0 {
-        return Checked::Fine;
-    }
-    Checked::Refused(Answer {
-        refusal: number,
-        place,
-        column: 0,
-    })
+    refused.map_err(|refusal| Answer::at(refusal, place))
 }
 
-fn room_refusal(forms: usize, policy: usize, steps: usize) -> u16
-    ensures { result ≡ demand (has_room forms policy steps) 13 0 }
-{
-    rows::demand_of(common::has_room(forms, policy, steps), 13, 0)
-}
-
-fn check_counts(principals: u16, atoms: u16, formulas: u16) -> Checked
+fn check_counts(principals: u16, atoms: u16, formulas: u16) -> Result<(), Answer>
     ensures { result ≡ met_in (count_answers principals atoms formulas) }
 {
-    let first = answer_at(
-        rows::count_refusal(1, common::MOST_PRINCIPALS, principals),
-        common::principals_at(),
-    );
-    let Checked::Fine = first else {
-        return first;
-    };
-    let second = answer_at(
-        rows::count_refusal(1, common::MOST_ATOMS, atoms),
-        common::atoms_at(),
-    );
-    let Checked::Fine = second else {
-        return second;
-    };
-    answer_at(
-        rows::count_refusal(1, common::MOST_FORMULAS, formulas),
-        common::formulas_at(),
-    )
+    let first = rows::check_count(1, common::MOST_PRINCIPALS, principals);
+    at_line(first, common::principals_at())?;
+    let second = rows::check_count(1, common::MOST_ATOMS, atoms);
+    at_line(second, common::atoms_at())?;
+    let third = rows::check_count(1, common::MOST_FORMULAS, formulas);
+    at_line(third, common::formulas_at())
 }
 
-// Formula number i by its three numbers, and the earlier one that it repeats.
+// Formula number i, and the earlier one that it repeats.
 fn check_form(
     principals: u16,
     atoms: u16,
     i: u16,
-    kind: u16,
-    left: u16,
-    right: u16,
-    earlier: Earlier,
-) -> Checked
-    ensures { result ≡ checked_of (answer (first_of (row_refusal form_kinds principals atoms i (row kind left right)) (repeat_refusal earlier)) (form_at i)) }
+    row: Row,
+    earlier: Option<u16>,
+) -> Result<(), Answer>
+    ensures { result ≡ checked_of (answer (first_of (row_refusal form_kinds principals atoms i (as_row row)) (repeat_refusal earlier)) (form_at i)) }
 {
-    let row = refusals::form_refusal(
-        kind as usize,
-        left as u32,
-        right as u32,
+    let own = refusals::check_form(
+        usize::from(row.kind),
+        u32::from(row.left),
+        u32::from(row.right),
         principals,
         atoms,
         i,
     );
-    let number = numbering::refusal_with(row, earlier);
-    answer_at(number, common::form_at(i))
+    at_line(numbering::refusal_with(own, earlier), common::form_at(i))
 }
 
-fn check_forms(principals: u16, atoms: u16, count: u16, forms: &[u16]) -> Checked
+fn check_forms(principals: u16, atoms: u16, count: u16, forms: &[u16]) -> Result<(), Answer>
     requires { count ≤ most_formulas }
     ensures { result ≡ met_in (form_answers principals atoms (unpack form_entry count forms.now)) }
 {
     let mut slots = [0u16; SLOTS];
-    let mut i: u16 = 0;
-    while i < count {
-        let at = 3 * (i as usize);
-        let kind = common::entry_at(forms, at);
-        let left = common::entry_at(forms, at + 1);
-        let right = common::entry_at(forms, at + 2);
-        let earlier = numbering::enter_row(forms, &mut slots, i, kind, left, right);
-        let form = check_form(principals, atoms, i, kind, left, right, earlier);
-        let Checked::Fine = form else {
-            return form;
-        };
-        i += 1;
+    for i in 0..count {
+        let row = common::row_at(forms, i);
+        let earlier = numbering::enter_row(forms, &mut slots, i, row);
+        check_form(principals, atoms, i, row, earlier)?;
     }
-    Checked::Fine
+    Ok(())
 }
 
-fn check_clauses(classes: &[u8], formulas: u16, count: u16, policy: &[u16]) -> Checked
+fn check_clauses(classes: &[Class], formulas: u16, count: u16, policy: &[u16]) -> Result<(), Answer>
     ensures { result ≡ met_in (policy_answers classes.now formulas (unpack policy_entry count policy.now)) }
 {
-    let mut i: u16 = 0;
-    while i < count {
-        let number = rows::clause_refusal(classes, formulas, common::entry_at(policy, i as usize));
-        let line = answer_at(number, common::clause_at(formulas, i));
-        let Checked::Fine = line else {
-            return line;
-        };
-        i += 1;
+    for i in 0..count {
+        let f = value_at(policy, usize::from(i), 0);
+        let class = value_at(classes, usize::from(f), Class::NONE);
+        let line = rows::check_class(formulas, f, class.policy);
+        at_line(line, common::clause_at(formulas, i))?;
     }
-    Checked::Fine
+    Ok(())
 }
 
-fn check_steps(formulas: u16, policy: u16, count: u16, steps: &[u16]) -> Checked
+fn check_steps(formulas: u16, policy: u16, count: u16, steps: &[u16]) -> Result<(), Answer>
     ensures { result ≡ met_in (step_answers formulas policy (unpack step_entry count steps.now)) }
 {
-    let mut i: u16 = 0;
-    while i < count {
-        let at = 2 * (i as usize);
-        let kind = common::entry_at(steps, at);
-        let carried = common::entry_at(steps, at + 1);
-        let number = refusals::step_refusal(kind as usize, carried as u32, 0);
-        let step = answer_at(number, common::step_at(formulas, policy, i));
-        let Checked::Fine = step else {
-            return step;
-        };
-        i += 1;
+    for i in 0..count {
+        let at = 2 * usize::from(i);
+        let kind = usize::from(value_at(steps, at, 0));
+        let carried = u32::from(value_at(steps, at + 1, 0));
+        let step = refusals::check_step(kind, carried, 0);
+        at_line(step, common::step_at(formulas, policy, i))?;
     }
-    Checked::Fine
+    Ok(())
 }
 
 fn zero_from(table: &[u16], from: usize) -> bool
-    ensures { result ≡ all_zero (drop from table.now) }
+    ensures { result ≡ list_all (λ n. eqb n 0) (drop from table.now) }
 {
-    let mut i = from;
-    while i < table.len() {
-        if table[i] != 0 {
-            return false;
-        }
-        i += 1;
-    }
-    true
+    table.iter().skip(from).all(|entry| *entry == 0)
 }
 
-fn past_refusal(counts: Counts, forms: &[u16], policy: &[u16], steps: &[u16]) -> u16
-    ensures { result ≡ demand (past_zero (lent_with counts forms.now policy.now steps.now)) 3 0 }
+fn check_past(counts: Counts, forms: &[u16], policy: &[u16], steps: &[u16]) -> Result<(), Refusal>
+    ensures { refusal_in result ≡ demand (past_zero (lent_with counts forms.now policy.now steps.now)) 3 0 }
 {
-    let past_forms = 3 * (counts.formulas as usize);
-    let past_lines = counts.policy as usize;
-    let past_steps = 2 * (counts.steps as usize);
-    let steps_rest = rows::demand_of(zero_from(steps, past_steps), 3, 0);
-    let lines_rest = rows::demand_of(zero_from(policy, past_lines), 3, steps_rest);
-    rows::demand_of(zero_from(forms, past_forms), 3, lines_rest)
+    let forms_rest = zero_from(forms, 3 * usize::from(counts.formulas));
+    rows::demand(forms_rest, Refusal::Range)?;
+    let policy_rest = zero_from(policy, usize::from(counts.policy));
+    rows::demand(policy_rest, Refusal::Range)?;
+    let steps_rest = zero_from(steps, 2 * usize::from(counts.steps));
+    rows::demand(steps_rest, Refusal::Range)
 }
 
 // The counts of principals, atoms and formulas, then the formulas.
-fn check_formulas(counts: Counts, forms: &[u16]) -> Checked
+fn check_formulas(counts: Counts, forms: &[u16]) -> Result<(), Answer>
     ensures { result ≡ met_in (form_part (lent_with counts forms.now [] [])) }
 {
-    let count = check_counts(counts.principals, counts.atoms, counts.formulas);
-    let Checked::Fine = count else {
-        return count;
-    };
+    check_counts(counts.principals, counts.atoms, counts.formulas)?;
     check_forms(counts.principals, counts.atoms, counts.formulas, forms)
 }
 
 // The count of policy lines, then those lines.
-fn check_policy(counts: Counts, classes: &[u8], policy: &[u16]) -> Checked
+fn check_policy(counts: Counts, classes: &[Class], policy: &[u16]) -> Result<(), Answer>
     ensures { result ≡ met_in (line_part (lent_with counts [] policy.now []) classes.now) }
 {
-    let number = rows::count_refusal(0, common::MOST_POLICY_LINES, counts.policy);
-    let count = answer_at(number, common::clauses_at(counts.formulas));
-    let Checked::Fine = count else {
-        return count;
-    };
+    let count = rows::check_count(0, common::MOST_POLICY_LINES, counts.policy);
+    at_line(count, common::clauses_at(counts.formulas))?;
     check_clauses(classes, counts.formulas, counts.policy, policy)
 }
 
 // The goal and the count of steps, then the steps.
-fn check_proof(counts: Counts, classes: &[u8], steps: &[u16]) -> Checked
+fn check_proof(counts: Counts, classes: &[Class], steps: &[u16]) -> Result<(), Answer>
     ensures { result ≡ met_in (step_part (lent_with counts [] [] steps.now) classes.now) }
 {
-    let number = rows::goal_refusal(classes, counts.formulas, counts.goal);
-    let goal = answer_at(number, common::goal_at(counts.formulas, counts.policy));
-    let Checked::Fine = goal else {
-        return goal;
-    };
-    let few = rows::count_refusal(1, common::MOST_STEPS, counts.steps);
-    let count = answer_at(few, common::steps_at(counts.formulas, counts.policy));
-    let Checked::Fine = count else {
-        return count;
-    };
+    let class = value_at(classes, usize::from(counts.goal), Class::NONE);
+    let goal = rows::check_class(counts.formulas, counts.goal, class.goal);
+    at_line(goal, common::goal_at(counts.formulas, counts.policy))?;
+    let count = rows::check_count(1, common::MOST_STEPS, counts.steps);
+    at_line(count, common::steps_at(counts.formulas, counts.policy))?;
     check_steps(counts.formulas, counts.policy, counts.steps, steps)
 }
 
 // The room, unit with version 1, and the version.
-fn check_head(counts: Counts, forms: usize, policy: usize, steps: usize) -> Checked
+fn check_head(counts: Counts, forms: usize, policy: usize, steps: usize) -> Result<(), Answer>
     ensures { result ≡ met_in (head_answers forms policy steps counts.version (logic_of counts.logic)) }
 {
-    let room = answer_at(room_refusal(forms, policy, steps), 0);
-    let Checked::Fine = room else {
-        return room;
-    };
-    let unit = answer_at(rows::unit_refusal(counts.version, counts.logic), 0);
-    let Checked::Fine = unit else {
-        return unit;
-    };
-    answer_at(
-        rows::count_refusal(1, common::MOST_VERSION, counts.version),
-        common::version_at(),
-    )
+    let room = rows::demand(
+        common::has_room(forms, policy, steps),
+        Refusal::TableTooShort,
+    );
+    at_line(room, 0)?;
+    let unit = rows::check_unit(counts.version, counts.logic);
+    at_line(unit, 0)?;
+    let version = rows::check_count(1, common::MOST_VERSION, counts.version);
+    at_line(version, common::version_at())
 }
 
 // The lines from `principals=` on, as version 1 counts them.
-fn check_body(counts: Counts, forms: &[u16], policy: &[u16], steps: &[u16]) -> Checked
+fn check_body(counts: Counts, forms: &[u16], policy: &[u16], steps: &[u16]) -> Result<(), Answer>
     ensures { result ≡ met_in (body_answers (request_of (lent_with counts forms.now policy.now steps.now))) }
 {
-    let formulas = check_formulas(counts, forms);
-    let Checked::Fine = formulas else {
-        return formulas;
-    };
+    check_formulas(counts, forms)?;
     let classes = classes::classes_of(forms, counts.formulas);
-    let clauses = check_policy(counts, &classes, policy);
-    let Checked::Fine = clauses else {
-        return clauses;
-    };
+    check_policy(counts, &classes, policy)?;
     check_proof(counts, &classes, steps)
 }
 
-fn further_down(checked: Checked, extra: u32) -> Checked
+#[tactic(auto, unfolding(crate::specs::Met::down_of))]
+fn further_down(checked: Result<(), Answer>, extra: u32) -> Result<(), Answer>
     requires { (place_of checked ≤ 10000) × (extra ≤ 1) }
     ensures { result ≡ down_of extra checked }
 {
-    match checked {
-        Checked::Fine => Checked::Fine,
-        Checked::Refused(answer) => Checked::Refused(Answer {
-            refusal: answer.refusal,
-            place: answer.place + extra,
-            column: answer.column,
-        }),
-    }
+    checked.map_err(|answer| Answer {
+        place: answer.place + extra,
+        ..answer
+    })
 }
 
-pub fn check_tables(counts: Counts, forms: &[u16], policy: &[u16], steps: &[u16]) -> Checked
+pub fn check_tables(
+    counts: Counts,
+    forms: &[u16],
+    policy: &[u16],
+    steps: &[u16],
+) -> Result<(), Answer>
     ensures { result ≡ checked_of (checked (lent_with counts forms.now policy.now steps.now)) }
 {
-    let head = check_head(counts, forms.len(), policy.len(), steps.len());
-    let Checked::Fine = head else {
-        return head;
-    };
+    check_head(counts, forms.len(), policy.len(), steps.len())?;
     let body = check_body(counts, forms, policy, steps);
-    let lines = further_down(body, common::extra_lines(counts.version));
-    let Checked::Fine = lines else {
-        return lines;
-    };
-    answer_at(past_refusal(counts, forms, policy, steps), 0)
+    further_down(body, common::extra_lines(counts.version))?;
+    at_line(check_past(counts, forms, policy, steps), 0)
 }
 
 // What is asked of lent tables where no steps are lent: that of a request whose one step is `top`.
-pub fn check_lines(counts: Counts, forms: &[u16], policy: &[u16]) -> Checked
+pub fn check_lines(counts: Counts, forms: &[u16], policy: &[u16]) -> Result<(), Answer>
     ensures { result ≡ checked_of (line_answer (lent_with counts forms.now policy.now [])) }
 {
     let mut steps = [0u16; common::STEP_ROOM];
-    steps[0] = 5;
-    let asked = Counts {
-        version: counts.version,
-        logic: counts.logic,
-        principals: counts.principals,
-        atoms: counts.atoms,
-        formulas: counts.formulas,
-        policy: counts.policy,
-        goal: counts.goal,
-        steps: 1,
-    };
-    check_tables(asked, forms, policy, &steps)
+    steps[0] = TOP;
+    check_tables(Counts { steps: 1, ..counts }, forms, policy, &steps)
 }

@@ -1,50 +1,34 @@
-// The refusals of a count, of a logic with its version and of a formula that a line names: 0 where there is none.
-ghost use Rattle.std.specs.Prelude.{◌≡◌};
+// What is asked of a count, of a logic with its version and of a formula that a line names.
+ghost use Rattle.std.specs.Prelude.{◌≡◌, ltb};
 ghost use Rattle.scope.specs.File.Refusals.{demand, count_refusal, unit_refusal};
 ghost use Rattle.scope.specs.File.Kinds.{logic_of};
-ghost use Rattle.classes.specs.Class.{goal_in, policy_in};
-ghost use Rattle.refusals.specs.Rows.{class_refusal};
+ghost use Rattle.common.specs.Refused.{number_of, refusal_in};
 
-pub(crate) fn demand_of(test: bool, number: u16, next: u16) -> u16
-    ensures { result ≡ demand test number next }
+use common::Refusal;
+
+#[tactic(auto, unfolding(scope::specs::File::Refusals::demand, common::specs::Refused::refusal_in))]
+pub(crate) fn demand(holds: bool, refusal: Refusal) -> Result<(), Refusal>
+    ensures { refusal_in result ≡ demand holds (number_of refusal) 0 }
 {
-    if test { next } else { number }
+    if holds { Ok(()) } else { Err(refusal) }
 }
 
-pub(crate) fn count_refusal(least: u16, most: u16, n: u16) -> u16
-    ensures { result ≡ count_refusal least most n }
+pub(crate) fn check_count(least: u16, most: u16, n: u16) -> Result<(), Refusal>
+    ensures { refusal_in result ≡ count_refusal least most n }
 {
-    if n < least {
-        return 3;
-    }
-    if most < n {
-        return 3;
-    }
-    0
+    demand((least..=most).contains(&n), Refusal::Range)
 }
 
-pub(crate) fn unit_refusal(version: u16, logic: u16) -> u16
-    ensures { result ≡ unit_refusal version (logic_of logic) }
+pub(crate) fn check_unit(version: u16, logic: u16) -> Result<(), Refusal>
+    ensures { refusal_in result ≡ unit_refusal version (logic_of logic) }
 {
-    if version != 1 {
-        return 0;
-    }
-    if logic == 0 {
-        return 0;
-    }
-    16
+    demand(version != 1 || logic == 0, Refusal::UnitInVersion1)
 }
 
-pub(crate) fn clause_refusal(classes: &[u8], formulas: u16, f: u16) -> u16
-    ensures { result ≡ class_refusal policy_in 0 classes.now formulas f }
+// A formula that a line names: one below the count, whose classes fit.
+pub(crate) fn check_class(formulas: u16, f: u16, fits: bool) -> Result<(), Refusal>
+    ensures { refusal_in result ≡ demand (ltb f formulas) 3 (demand fits 5 0) }
 {
-    let class = common::byte_at(classes, f as usize);
-    demand_of(f < formulas, 3, demand_of(classes::is_policy(class), 5, 0))
-}
-
-pub(crate) fn goal_refusal(classes: &[u8], formulas: u16, f: u16) -> u16
-    ensures { result ≡ class_refusal goal_in 0 classes.now formulas f }
-{
-    let class = common::byte_at(classes, f as usize);
-    demand_of(f < formulas, 3, demand_of(classes::is_goal(class), 5, 0))
+    demand(f < formulas, Refusal::Range)?;
+    demand(fits, Refusal::WrongClass)
 }

@@ -30,7 +30,7 @@ first_some zero e next = absurd (e refl)
 first_some (suc k) e next = refl
 
 -- No refusal has the number 0.
-number_some : (r : Refusal) → number_of r ≡ 0 → ⊥
+pub number_some : (r : Refusal) → number_of r ≡ 0 → ⊥
 unfolding number_of
 number_some refusal.TooLong e = never cc
 number_some refusal.Shape e = never cc

@@ -1,5 +1,4 @@
 -- `checks::check_clauses` meets its contract: in turn i the answers about the first i policy lines are fine, and answer i is that about row i.
-use Prim.Native.Nat.{◌-◌}
 use Rattle.scope.specs.Call.Tables.{unpack, policy_entry}
 use Rattle.checks.specs.MetLaws.{Passed}
 use Rattle.checks.specs.Answers.{policy_answers}
@@ -7,6 +6,3 @@ use Rattle.checks.proofs.check_clauses.Given as goal
 
 abbrev pub invariant-loop-i : goal.invariant-loop-i
 invariant-loop-i l = Passed l.count (policy_answers l.classes l.formulas (unpack policy_entry l.count l.policy)) l.i
-
-abbrev pub decreases-loop-i : goal.decreases-loop-i
-decreases-loop-i l = l.count - l.i

@@ -1,38 +1,39 @@
 -- `checks::check_counts` meets its contract: the first count out of range is the answer, and the last one decides where the others are fine.
 use mathlib.Core.Path.{◌≡◌, ◌∙◌, sym}
 use mathlib.Core.List.{[], ◌∷◌}
+use Rattle.std.specs.Prelude.{Err}
+use Rattle.std.proofs.Common.{arith}
 use Rattle.scope.specs.Call.Answer.{answer}
 use Rattle.scope.specs.Limits.{principals_at, atoms_at, formulas_at}
 use Rattle.scope.specs.File.Refusals.{principals_refusal, atoms_refusal, formulas_refusal}
 use Rattle.checks.specs.Met.{checked_of}
-use Rattle.checks.specs.MetLaws.{met_one, one_stop, one_go}
+use Rattle.checks.specs.MetLaws.{met_one, one_out, one_go}
 use Rattle.checks.specs.Answers.{count_answers}
 use Rattle.checks.proofs.check_counts.Goals as goal
 
-pub returns-in_default : goal.returns-in_default
+pub returns-in_err-at_line : goal.returns-in_err-at_line
 unfolding count_answers
-returns-in_default c =
+returns-in_err-at_line c =
     let a = c.args in
     let principals = answer (principals_refusal a.principals) principals_at in
     let atoms = answer (atoms_refusal a.atoms) atoms_at in
     let formulas = answer (formulas_refusal a.formulas) formulas_at in
-    let g = c.answer_at-first in
-    let e : g.result ≡ checked_of principals = rw (c.count_refusal.ensures, c.principals_at.ensures) at g.ensures in
-    one_stop principals (atoms ∷ formulas ∷ []) g.result c.in_default.field-0 e c.in_default.is
+    let first : c.at_line.result ≡ checked_of principals = rw (c.check_count-first.ensures, c.principals_at.ensures) at c.at_line.ensures in
+    let back : c.from_residual.result ≡ Err c.in_err-at_line.field-0.0 = grind arith in
+    one_out principals (atoms ∷ formulas ∷ []) first c.in_err-at_line.was back
 
-pub returns-in_default-second : goal.returns-in_default-second
+pub returns-in_err-at_line-2 : goal.returns-in_err-at_line-2
 unfolding count_answers
-returns-in_default-second c =
+returns-in_err-at_line-2 c =
     let a = c.args in
     let principals = answer (principals_refusal a.principals) principals_at in
     let atoms = answer (atoms_refusal a.atoms) atoms_at in
     let formulas = answer (formulas_refusal a.formulas) formulas_at in
-    let g = c.answer_at-first in
-    let h = c.answer_at-second in
-    let e : g.result ≡ checked_of principals = rw (c.count_refusal.ensures, c.principals_at.ensures) at g.ensures in
-    let f : h.result ≡ checked_of atoms = rw (c.count_refusal-2.ensures, c.atoms_at.ensures) at h.ensures in
-    one_stop atoms (formulas ∷ []) h.result c.in_default-second.field-0 f c.in_default-second.is ∙
-    one_go principals (atoms ∷ formulas ∷ []) g.result e c.in-Fine.is
+    let first : c.at_line.result ≡ checked_of principals = rw (c.check_count-first.ensures, c.principals_at.ensures) at c.at_line.ensures in
+    let second : c.at_line-2.result ≡ checked_of atoms = rw (c.check_count-second.ensures, c.atoms_at.ensures) at c.at_line-2.ensures in
+    let back : c.from_residual-in_err-at_line-2.result ≡ Err c.in_err-at_line-2.field-0.0 = grind arith in
+    one_out atoms (formulas ∷ []) second c.in_err-at_line-2.was back ∙
+    one_go principals (atoms ∷ formulas ∷ []) c.at_line.result first c.in_ok-at_line.was
 
 pub returns : goal.returns
 unfolding count_answers
@@ -41,13 +42,10 @@ returns c =
     let principals = answer (principals_refusal a.principals) principals_at in
     let atoms = answer (atoms_refusal a.atoms) atoms_at in
     let formulas = answer (formulas_refusal a.formulas) formulas_at in
-    let g = c.answer_at-first in
-    let h = c.answer_at-second in
-    let k = c.answer_at in
-    let e : g.result ≡ checked_of principals = rw (c.count_refusal.ensures, c.principals_at.ensures) at g.ensures in
-    let f : h.result ≡ checked_of atoms = rw (c.count_refusal-2.ensures, c.atoms_at.ensures) at h.ensures in
-    let m : k.result ≡ checked_of formulas = rw (c.count_refusal-3.ensures, c.formulas_at.ensures) at k.ensures in
-    m ∙
+    let first : c.at_line.result ≡ checked_of principals = rw (c.check_count-first.ensures, c.principals_at.ensures) at c.at_line.ensures in
+    let second : c.at_line-2.result ≡ checked_of atoms = rw (c.check_count-second.ensures, c.atoms_at.ensures) at c.at_line-2.ensures in
+    let third : c.at_line-3.result ≡ checked_of formulas = rw (c.check_count-third.ensures, c.formulas_at.ensures) at c.at_line-3.ensures in
+    third ∙
     sym (met_one formulas) ∙
-    one_go atoms (formulas ∷ []) h.result f c.in-Fine-second.is ∙
-    one_go principals (atoms ∷ formulas ∷ []) g.result e c.in-Fine.is
+    one_go atoms (formulas ∷ []) c.at_line-2.result second c.in_ok-at_line-2.was ∙
+    one_go principals (atoms ∷ formulas ∷ []) c.at_line.result first c.in_ok-at_line.was

@@ -1,11 +1,7 @@
 -- `checks::check_forms` meets its contract: in turn i the answers about the first i formulas are fine and the slots keep their rows, and
 -- answer i is that about row i.
-use Prim.Native.Nat.{◌-◌}
 use Rattle.checks.specs.FormTurns.{FormsPassed}
 use Rattle.checks.proofs.check_forms.Given as goal
 
 abbrev pub invariant-loop-i : goal.invariant-loop-i
 invariant-loop-i l = FormsPassed l.principals l.atoms l.count l.forms l.slots l.i
-
-abbrev pub decreases-loop-i : goal.decreases-loop-i
-decreases-loop-i l = l.count - l.i

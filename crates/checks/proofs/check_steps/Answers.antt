@@ -1,5 +1,8 @@
+use mathlib.Core.Path.{◌≡◌}
+use Rattle.std.specs.Prelude.{Err}
+use Rattle.std.proofs.Common.{arith}
 use Rattle.scope.specs.Call.Tables.{unpack, step_entry}
-use Rattle.checks.specs.MetLaws.{passed_none, passed_all, Turn, turn_of, turn_stop, turn_go}
+use Rattle.checks.specs.MetLaws.{passed_none, passed_all, Turn, turn_of, turn_out, turn_go}
 use Rattle.checks.specs.Answers.{step_answers}
 use Rattle.checks.specs.Sections.{steps_length, step_at_lem}
 use Rattle.checks.proofs.check_steps.Goals as goal
@@ -9,27 +12,30 @@ loop-i-init c =
     let a = c.args in
     passed_none (steps_length a.formulas a.policy a.count a.steps.now)
 
-pub returns-in_default : goal.returns-in_default
-returns-in_default c =
+pub returns-in_err-at_line : goal.returns-in_err-at_line
+returns-in_err-at_line c =
     let a = c.args in
     let i = c.loop-i.i in
     let more = c.loop-i-test.true in
-    let gave = c.answer_at-step in
-    let turn : Turn a.count (step_answers a.formulas a.policy (unpack step_entry a.count a.steps.now)) i gave.result =
+    let turn : Turn a.count (step_answers a.formulas a.policy (unpack step_entry a.count a.steps.now)) i c.at_line.result =
     turn_of more c.loop-i.invariant (step_at_lem a.formulas a.policy a.count a.steps.now i more)
-    (rw (c.entry_at-kind.ensures, c.entry_at-carried.ensures) at (rw (c.step_refusal-number.ensures, c.step_at.ensures) at gave.ensures)) in
-    turn_stop turn c.in_default.is
+    (rw c.from-at.ensures at
+    (rw (c.value_at.ensures, c.value_at-in-loop-i.ensures) at
+    (rw (c.from-kind.ensures, c.from-carried.ensures) at (rw (c.check_step-step.ensures, c.step_at.ensures) at c.at_line.ensures)))) in
+    let back : c.from_residual.result ≡ Err c.in_err-at_line.field-0.0 = grind arith in
+    turn_out turn c.in_err-at_line.was back
 
 pub loop-i-preserved : goal.loop-i-preserved
 loop-i-preserved c =
     let a = c.args in
     let i = c.loop-i.i in
     let more = c.loop-i-test.true in
-    let gave = c.answer_at-step in
-    let turn : Turn a.count (step_answers a.formulas a.policy (unpack step_entry a.count a.steps.now)) i gave.result =
+    let turn : Turn a.count (step_answers a.formulas a.policy (unpack step_entry a.count a.steps.now)) i c.at_line.result =
     turn_of more c.loop-i.invariant (step_at_lem a.formulas a.policy a.count a.steps.now i more)
-    (rw (c.entry_at-kind.ensures, c.entry_at-carried.ensures) at (rw (c.step_refusal-number.ensures, c.step_at.ensures) at gave.ensures)) in
-    turn_go turn c.in-Fine.is
+    (rw c.from-at.ensures at
+    (rw (c.value_at.ensures, c.value_at-in-loop-i.ensures) at
+    (rw (c.from-kind.ensures, c.from-carried.ensures) at (rw (c.check_step-step.ensures, c.step_at.ensures) at c.at_line.ensures)))) in
+    turn_go turn c.in_ok-at_line.was
 
 pub returns : goal.returns
 returns c = passed_all c.loop-i.invariant c.loop-i-test.false

@@ -1,5 +1,4 @@
 -- `checks::check_steps` meets its contract: in turn i the answers about the first i steps are fine, and answer i is that about row i.
-use Prim.Native.Nat.{◌-◌}
 use Rattle.scope.specs.Call.Tables.{unpack, step_entry}
 use Rattle.checks.specs.MetLaws.{Passed}
 use Rattle.checks.specs.Answers.{step_answers}
@@ -7,6 +6,3 @@ use Rattle.checks.proofs.check_steps.Given as goal
 
 abbrev pub invariant-loop-i : goal.invariant-loop-i
 invariant-loop-i l = Passed l.count (step_answers l.formulas l.policy (unpack step_entry l.count l.steps)) l.i
-
-abbrev pub decreases-loop-i : goal.decreases-loop-i
-decreases-loop-i l = l.count - l.i

@@ -1,5 +1,7 @@
 -- `checks::check_tables` meets its contract: the head first, then the lines where they stand, and what is past the counts decides last.
-use mathlib.Core.Path.{◌≡◌, ◌∙◌}
+use mathlib.Core.Path.{◌≡◌, ◌∙◌, sym}
+use Rattle.std.specs.Prelude.{Err}
+use Rattle.std.proofs.Common.{arith}
 use Rattle.scope.specs.Call.Tables.{Lent, request_of}
 use Rattle.scope.specs.Limits.{extra_lines}
 use Rattle.common.specs.Lines.{few_lines}
@@ -8,37 +10,38 @@ use Rattle.checks.specs.Whole.{past_met, head_stop, down_stop, after_down}
 use Rattle.checks.specs.Near.{near_body}
 use Rattle.checks.proofs.check_tables.Goals as goal
 
-pub returns-in_default : goal.returns-in_default
-returns-in_default c =
+pub returns-in_err-check_head : goal.returns-in_err-check_head
+returns-in_err-check_head c =
     let a = c.args in
     let lent : Lent = lent_with a.counts a.forms.now a.policy.now a.steps.now in
-    let head = c.check_head-head in
-    head_stop lent head.result head.ensures c.in_default.field-0 c.in_default.is
+    let back : c.from_residual.result ≡ Err c.in_err-check_head.field-0.0 = grind arith in
+    back ∙ sym c.in_err-check_head.was ∙
+    head_stop lent c.check_head.result c.check_head.ensures c.in_err-check_head.field-0.0 c.in_err-check_head.was
 
-pub further_down-lines-requires : goal.further_down-lines-requires
-further_down-lines-requires c =
+pub further_down-requires : goal.further_down-requires
+further_down-requires c =
     let a = c.args in
     let lent : Lent = lent_with a.counts a.forms.now a.policy.now a.steps.now in
     (rw c.check_body-body.ensures (near_body (request_of lent)).near, rw c.extra_lines.ensures (few_lines _))
 
-pub returns-in_default-lines : goal.returns-in_default-lines
-returns-in_default-lines c =
+pub returns-in_err-further_down : goal.returns-in_err-further_down
+returns-in_err-further_down c =
     let a = c.args in
     let lent : Lent = lent_with a.counts a.forms.now a.policy.now a.steps.now in
-    let head = c.check_head-head in
     let body = c.check_body-body in
-    let down = c.further_down-lines in
+    let down = c.further_down in
     let moved : down.result ≡ down_of (extra_lines a.counts.version) body.result = rw c.extra_lines.ensures at down.ensures in
-    down_stop lent head.result head.ensures c.in-Fine.is body.result down.result body.ensures moved
-    c.in_default-lines.field-0 c.in_default-lines.is
+    let back : c.from_residual-in_err-further_down.result ≡ Err c.in_err-further_down.field-0.0 = grind arith in
+    back ∙ sym c.in_err-further_down.was ∙
+    down_stop lent c.check_head.result c.check_head.ensures c.in_ok-check_head.was body.result down.result body.ensures moved
+    c.in_err-further_down.field-0.0 c.in_err-further_down.was
 
 pub returns : goal.returns
 returns c =
     let a = c.args in
     let lent : Lent = lent_with a.counts a.forms.now a.policy.now a.steps.now in
-    let head = c.check_head-head in
     let body = c.check_body-body in
-    let down = c.further_down-lines in
+    let down = c.further_down in
     let moved : down.result ≡ down_of (extra_lines a.counts.version) body.result = rw c.extra_lines.ensures at down.ensures in
-    past_met lent c.answer_at.result (rw c.past_refusal.ensures at c.answer_at.ensures) ∙
-    after_down lent head.result head.ensures c.in-Fine.is body.result down.result body.ensures moved c.in-Fine-lines.is
+    past_met lent c.at_line.result (rw c.check_past.ensures at c.at_line.ensures) ∙
+    after_down lent c.check_head.result c.check_head.ensures c.in_ok-check_head.was body.result down.result body.ensures moved c.in_ok-further_down.was
