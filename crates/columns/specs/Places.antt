@@ -1,19 +1,23 @@
 -- Where a text stops, at a place that the code has reached.
-use Rattle.std.specs.Prelude.{ℕ, zero, suc, ◌+◌, ◌-◌, ◌≤◌, ◌<◌, ◌≡◌, List, [], ◌∷◌, Bool, true, false, cond, eqb, length, take, drop, get_or}
+use Rattle.std.specs.Prelude.{ℕ, zero, suc, ◌+◌, ◌-◌, ◌≤◌, ◌<◌, ◌≡◌, refl, List, [], ◌∷◌, Bool, true, false, cond, eqb, ltb, length, take, drop, get_or, max, fold, zip, take_while}
+use Rattle.std.specs.List.{prefix_len}
+use Rattle.std.specs.Option.{unwrap_or}
+use Rattle.std.specs.Result.{result_err}
+use Rattle.std.proofs.lemmas.List.{length-map}
+use Rattle.std.proofs.lemmas.List.Folds.{length-prefix_len}
 use Rattle.std.proofs.Math.Numerals.{add-one}
-use Rattle.std.proofs.Common.{arith, sym, ap, ◌∙◌, drop_of_length-le, length-drop, drop-drop, eq-eqb, ne_eqb, lt-ltb, le-ltb}
-use Rattle.std.proofs.Math.Path.{refl}
+use Rattle.std.proofs.Common.{arith, sym, ap, ◌∙◌, drop_of_length-le, length-drop, drop-drop, eq-eqb, ne_eqb, ltb-true, ltb-false}
 use Rattle.std.proofs.Math.Option.{Option, none, some}
 use Rattle.std.proofs.Math.Seq.{drop-cons}
 use Rattle.scope.specs.File.Number.{number}
-use Rattle.scope.specs.File.Kinds.{Kind, kind_in, kind_stop, kinds_stop}
-use Rattle.scope.specs.Tools.Tests.{never}
-use Rattle.lines.specs.Parts.{tail_part}
+use Rattle.scope.specs.File.Kinds.{kind_stop, kinds_stop}
 use Rattle.scope.specs.File.Stops.{number_stop, none_stop, byte_stop, word_stop, end_stop, stopped_at, digits_stop, items_stop, larger}
+use Rattle.common.specs.Kinds.{sort_of, kind_of, listed}
+use Rattle.common.specs.declared.kinds.Kind.{Kind}
+use Rattle.lines.specs.Parts.{tail_part}
 use Rattle.lines.specs.Answers.{number_answer}
-use Rattle.lines.specs.Operands.{number_some}
-use Rattle.lines.specs.declared.Number.TheVariants as N
 use Rattle.columns.specs.NumberPart.{number_whole}
+use Rattle.columns.specs.RowPart.{tells_items}
 
 -- A byte at the front.
 pub byte_met : (c : ℕ) (f : List ℕ → ℕ) (s : List ℕ) (i : ℕ) → i < length s → get_or s i 0 ≡ c → byte_stop c f (drop i s) ≡ suc (f (drop (i + 1) s))
@@ -28,25 +32,23 @@ pub byte_ended : (c : ℕ) (f : List ℕ → ℕ) (s : List ℕ) (i : ℕ) → l
 unfolding byte_stop
 byte_ended c f s i h = rw (drop_of_length-le s h) refl
 
--- A word, byte by byte.
-module _ (w s : List ℕ) (i : ℕ) where
-  pub word_goes :
-      i < length w → i < length s → get_or s i 0 ≡ get_or w i 0
-      → word_stop (drop i w) none_stop (drop i s) ≡ suc (word_stop (drop (i + 1) w) none_stop (drop (i + 1) s))
-  unfolding word_stop
-  word_goes h k e = rw (add-one, drop-cons w i 0 h) (byte_met (get_or w i 0) (word_stop (drop (suc i) w) none_stop) s i k e ∙ rw add-one refl)
+-- A word, as far as its bytes are those of the text.
+unfoldable pub stands : List ℕ → List ℕ → ℕ
+stands w s = length (take_while (λ (p : ℕ × ℕ). eqb p.0 p.1) (zip s w))
 
-  pub word_other : i < length w → i < length s → (get_or s i 0 ≡ get_or w i 0 → ⊥) → word_stop (drop i w) none_stop (drop i s) ≡ 0
-  unfolding word_stop
-  word_other h k e = rw (drop-cons w i 0 h) (byte_other (get_or w i 0) (word_stop (drop (suc i) w) none_stop) s i k e)
+pub stands_is : (w s : List ℕ) → stands w s ≡ word_stop w none_stop s
+unfolding stands word_stop byte_stop
+stands_is w s = length-prefix_len (λ (p : ℕ × ℕ). eqb p.0 p.1) (zip s w) ∙ go w s
+  where
+    one : (x : Bool) (m n : ℕ) → m ≡ n → cond x (1 + m) 0 ≡ cond x (suc n) 0
+    one true m n e = omega arith
+    one false m n e = refl
 
-  pub word_ended : i < length w → length s ≤ i → word_stop (drop i w) none_stop (drop i s) ≡ 0
-  unfolding word_stop
-  word_ended h k = rw (drop-cons w i 0 h) (byte_ended (get_or w i 0) (word_stop (drop (suc i) w) none_stop) s i k)
-
-  pub word_done : length w ≤ i → word_stop (drop i w) none_stop (drop i s) ≡ 0
-  unfolding word_stop
-  word_done h = rw (drop_of_length-le w h) refl
+    go : (w s : List ℕ) → prefix_len (λ (p : ℕ × ℕ). eqb p.0 p.1) (zip s w) ≡ word_stop w none_stop s
+    go [] [] = refl
+    go [] (b ∷ s) = refl
+    go (c ∷ w) [] = refl
+    go (c ∷ w) (b ∷ s) = one (eqb b c) _ _ (go w s)
 
 -- A word that breaks off, and a word that stands whole.
 pub word_short : (w : List ℕ) (f : List ℕ → ℕ) (s : List ℕ) → word_stop w none_stop s < length w → word_stop w f s ≡ word_stop w none_stop s
@@ -124,13 +126,13 @@ digits_some f s k e z = rw (← e) (go k z)
     go (suc j) q = refl
 
 -- What the number reader answers.
-pub value_stop : (s : List ℕ) (n : ℕ) → number_answer (number s) (number_stop s) ≡ N.Value n → length s ≡ number_stop s
-value_stop s n e = number_whole s n (number_some (number s) (number_stop s) n e)
-
-pub bad_stop : (o : Option ℕ) (stop at : ℕ) → number_answer o stop ≡ N.Bad at → at ≡ stop
+pub stop_is : (s : List ℕ) → unwrap_or (result_err (number_answer (number s) (number_stop s))) (length s) ≡ number_stop s
 unfolding number_answer
-bad_stop none stop at e = cc
-bad_stop (some n) stop at e = never cc
+stop_is s = go (number s) refl
+  where
+    go : (o : Option ℕ) → number s ≡ o → unwrap_or (result_err (number_answer o (number_stop s))) (length s) ≡ number_stop s
+    go none e = refl
+    go (some n) e = number_whole s n e
 
 -- The LF.
 pub end_none : (s : List ℕ) → length s ≡ 0 → 0 ≡ end_stop s
@@ -201,20 +203,30 @@ unfolding items_stop
 items_done s i zero h = refl
 items_done s i (suc n) h = absurd (omega arith)
 
--- The larger of two.
-pub larger_second : (m n : ℕ) → m < n → n ≡ larger m n
-unfolding larger
-larger_second m n h = rw (lt-ltb m n h) refl
+-- A kind of the table.
+pub kind_stands : (k : Kind) (s : List ℕ) → kind_stop (kind_of k) s ≡ word_stop k.word.now (items_stop (length k.operands.now)) s
+unfolding kind_stop
+kind_stands k s = ap (λ n. word_stop k.word.now (items_stop n) s) (length-map k.operands.now sort_of)
 
-pub larger_first : (m n : ℕ) → n ≤ m → m ≡ larger m n
-unfolding larger
-larger_first m n h = rw (le-ltb m n h) refl
+pub items_within : (n : ℕ) (s : List ℕ) → items_stop n s ≤ length s
+items_within n s = (tells_items n).bounded s
 
--- The kind at a place of the table against those behind it.
-pub kinds_at :
-    (ks : List Kind) (s : List ℕ) (i best r : ℕ) → i < length ks → best ≡ kinds_stop (drop (suc i) ks) s → r ≡ larger (kind_stop (kind_in ks i) s) best
-    → r ≡ kinds_stop (drop i ks) s
-unfolding kinds_stop kind_in
-kinds_at [] s i best r h e f = absurd (omega arith)
-kinds_at (c ∷ cs) s zero best r h e f = f ∙ ap (λ n. larger (kind_stop c s) n) e
-kinds_at (c ∷ cs) s (suc i) best r h e f = kinds_at cs s i best r (omega arith) e f
+-- The kind that goes furthest.
+larger_is : (m n : ℕ) → larger m n ≡ max m n
+unfolding larger
+larger_is m n = go (ltb m n) refl
+  where
+    go : (x : Bool) → ltb m n ≡ x → cond x n m ≡ max m n
+    go true e = omega (arith, ltb-true m n e)
+    go false e = omega (arith, ltb-false m n e)
+
+furthest_from : (kinds : List Kind) (s : List ℕ) (best : ℕ)
+    → fold (λ (b : ℕ) (k : Kind). max (kind_stop (kind_of k) s) b) best kinds ≡ max (kinds_stop (listed kinds) s) best
+unfolding kinds_stop
+furthest_from [] s best = omega arith
+furthest_from (c ∷ cs) s best =
+    furthest_from cs s (max (kind_stop (kind_of c) s) best) ∙ omega (arith, larger_is (kind_stop (kind_of c) s) (kinds_stop (listed cs) s))
+
+pub furthest_is : (kinds : List Kind) (s : List ℕ)
+    → kinds_stop (listed kinds) s ≡ fold (λ (b : ℕ) (k : Kind). max (kind_stop (kind_of k) s) b) 0 kinds
+furthest_is kinds s = omega (arith, furthest_from kinds s 0)

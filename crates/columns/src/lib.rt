@@ -3,141 +3,100 @@
 #![tactic(auto)]
 
 ghost use Rattle.std.specs.Prelude.{◌≡◌};
-ghost use Rattle.scope.specs.File.Kinds.{form_kinds, step_kinds, logic_kinds, kinds_stop};
-ghost use Rattle.scope.specs.File.Stops.{number_stop, none_stop, word_stop, end_stop, items_stop, larger};
+ghost use Rattle.scope.specs.File.Kinds.{kind_stop, kinds_stop};
+ghost use Rattle.scope.specs.File.Stops.{number_stop, word_stop, end_stop, items_stop};
 ghost use Rattle.scope.specs.File.Line.{line_stop};
 ghost use Rattle.scope.specs.File.Text.{logic_line, form_line, step_line};
+ghost use Rattle.common.specs.Kinds.{kind_of, listed};
 ghost use Rattle.columns.specs.Shapes.{number_with};
+ghost use Rattle.columns.specs.Places.{stands};
 
-use lines::Number;
+use common::kinds::{Kind, form_kinds, logic_kinds, step_kinds};
 
 // How many bytes of a key or a word stand at the front.
+#[tactic(auto, unfolding(crate::specs::Places::stands))]
 fn word_stop(text: &[u8], word: &[u8]) -> usize
-    ensures { result ≡ word_stop word.now none_stop text.now }
+    ensures { result ≡ stands word.now text.now }
 {
-    let mut i = 0;
-    while i < word.len() {
-        if text.len() <= i {
-            return i;
-        }
-        if text[i] != word[i] {
-            return i;
-        }
-        i += 1;
-    }
-    i
+    text.iter()
+        .zip(word)
+        .take_while(|pair| *pair.0 == *pair.1)
+        .count()
 }
 
 // How many digits of a number stand at the front, as the number reader says.
+#[tactic(auto, using(crate::specs::Places::stop_is))]
 fn number_stop(text: &[u8]) -> usize
     ensures { result ≡ number_stop text.now }
 {
-    let got = lines::read_number(text);
-    match got {
-        Number::Value(_) => text.len(),
-        Number::Bad(stop) => stop,
-    }
+    lines::read_number(text).err().unwrap_or(text.len())
 }
 
+#[tactic(auto, using(crate::specs::Places::end_none, crate::specs::Places::end_met, crate::specs::Places::end_other))]
 fn end_stop(text: &[u8]) -> usize
     ensures { result ≡ end_stop text.now }
 {
-    if text.len() == 0 {
-        return 0;
+    match text {
+        [b'\n', ..] => 1,
+        _ => 0,
     }
-    if text[0] == 10 {
-        return 1;
-    }
-    0
 }
 
 // Behind a kind's word: a space and a number for each operand, then the LF.
-fn items_stop(text: &[u8], wanted: u8) -> usize
+#[tactic(auto, using(crate::specs::Places::items_ended, crate::specs::Places::items_other, crate::specs::Places::items_blank, crate::specs::Places::items_goes, crate::specs::Places::items_done, trip::specs::LineStops::number_within, crate::specs::Places::end_within, lines::specs::Parts::tail_part))]
+fn items_stop(text: &[u8], wanted: usize) -> usize
     ensures { result ≡ items_stop wanted text.now }
 {
     let mut at = 0;
-    let mut left = wanted;
-    while 0 < left {
-        if text.len() <= at {
+    for _done in 0..wanted {
+        let Some(b' ') = text.get(at) else {
             return at;
-        }
-        if text[at] != 32 {
-            return at;
-        }
-        let from = at + 1;
-        let digits = number_stop(&text[from..]);
+        };
+        let digits = number_stop(&text[at + 1..]);
         if digits == 0 {
-            return from;
+            return at + 1;
         }
-        at = from + digits;
-        left -= 1;
+        at += 1 + digits;
     }
-    let last = end_stop(&text[at..]);
-    at + last
+    at + end_stop(&text[at..])
 }
 
-// A kind's word and its items, or what went further before.
-fn further(text: &[u8], word: &[u8], wanted: u8, best: usize) -> usize
-    ensures { result ≡ larger (word_stop word.now (items_stop wanted) text.now) best }
+// A kind's word and its items.
+#[tactic(auto, using(crate::specs::Places::stands_is, crate::specs::Places::word_within, crate::specs::Places::word_short, crate::specs::Places::word_whole, crate::specs::Places::kind_stands, crate::specs::Places::items_within, lines::specs::Parts::tail_part))]
+fn kind_stop(text: &[u8], kind: &Kind) -> usize
+    ensures { result ≡ kind_stop (kind_of kind.now) text.now }
 {
-    let front = word_stop(text, word);
-    if front < word.len() {
-        return larger_of(front, best);
+    let letters = word_stop(text, kind.word);
+    if letters < kind.word.len() {
+        return letters;
     }
-    let more = items_stop(&text[front..], wanted);
-    larger_of(front + more, best)
+    letters + items_stop(&text[letters..], kind.operands.len())
 }
 
-fn larger_of(a: usize, b: usize) -> usize
-    ensures { result ≡ larger a b }
+// The kind that goes furthest.
+#[tactic(auto, using(crate::specs::Places::furthest_is))]
+fn kinds_stop(text: &[u8], kinds: &[Kind]) -> usize
+    ensures { result ≡ kinds_stop (listed kinds.now) text.now }
 {
-    if a < b { b } else { a }
+    kinds
+        .iter()
+        .fold(0, |best, kind| kind_stop(text, kind).max(best))
 }
 
-fn form_kinds(text: &[u8]) -> usize
-    ensures { result ≡ kinds_stop form_kinds text.now }
+// A line whose value is of one of these kinds.
+#[tactic(auto, using(crate::specs::Places::stands_is, crate::specs::Places::word_within, crate::specs::Places::word_short, crate::specs::Places::word_whole, crate::specs::RowPart::table_bounded, lines::specs::Parts::tail_part))]
+fn kind_line(text: &[u8], key: &[u8], kinds: &[Kind]) -> usize
+    ensures { result ≡ word_stop key.now (kinds_stop (listed kinds.now)) text.now }
 {
-    let sf = further(text, b"sf", 2, 0);
-    let says = further(text, b"says", 2, sf);
-    let imp = further(text, b"imp", 2, says);
-    let or = further(text, b"or", 2, imp);
-    let and = further(text, b"and", 2, or);
-    let bot = further(text, b"bot", 0, and);
-    let top = further(text, b"top", 0, bot);
-    further(text, b"p", 1, top)
-}
-
-fn logic_kinds(text: &[u8]) -> usize
-    ensures { result ≡ kinds_stop logic_kinds text.now }
-{
-    let unit = further(text, b"unit", 0, 0);
-    further(text, b"plain", 0, unit)
-}
-
-fn step_kinds(text: &[u8]) -> usize
-    ensures { result ≡ kinds_stop step_kinds text.now }
-{
-    let note = further(text, b"note", 0, 0);
-    let drop = further(text, b"drop", 0, note);
-    let absurd = further(text, b"absurd", 0, drop);
-    let cases = further(text, b"case", 0, absurd);
-    let split = further(text, b"split", 0, cases);
-    let push = further(text, b"push", 0, split);
-    let hit = further(text, b"hit", 0, push);
-    let to = further(text, b"to", 1, hit);
-    let right = further(text, b"right", 0, to);
-    let left = further(text, b"left", 0, right);
-    let uses = further(text, b"use", 1, left);
-    let sf = further(text, b"sf", 0, uses);
-    let top = further(text, b"top", 0, sf);
-    let says = further(text, b"says", 0, top);
-    let imp = further(text, b"imp", 0, says);
-    let or2 = further(text, b"or2", 0, imp);
-    let or1 = further(text, b"or1", 0, or2);
-    further(text, b"and", 0, or1)
+    let front = word_stop(text, key);
+    if front < key.len() {
+        return front;
+    }
+    front + kinds_stop(&text[front..], kinds)
 }
 
 // A line with a number.
+#[tactic(auto, using(crate::specs::Places::stands_is, crate::specs::Places::word_within, crate::specs::Places::word_short, crate::specs::Places::word_whole, crate::specs::Places::digits_none, crate::specs::Places::digits_some, trip::specs::LineStops::number_within, crate::specs::Places::end_within, lines::specs::Parts::tail_part), unfolding(scope::specs::File::Line::line_stop))]
 pub fn number_line(text: &[u8], key: &[u8]) -> usize
     ensures { result ≡ line_stop (number_with key.now) text.now }
 {
@@ -150,42 +109,29 @@ pub fn number_line(text: &[u8], key: &[u8]) -> usize
         return front;
     }
     let end = front + digits;
-    let last = end_stop(&text[end..]);
-    end + last
+    end + end_stop(&text[end..])
 }
 
 // A `form=` line.
+#[tactic(auto, unfolding(scope::specs::File::Line::line_stop))]
 pub fn form_line(text: &[u8]) -> usize
     ensures { result ≡ line_stop form_line text.now }
 {
-    let front = word_stop(text, b"form=");
-    if front < 5 {
-        return front;
-    }
-    let more = form_kinds(&text[front..]);
-    front + more
+    kind_line(text, b"form=", form_kinds())
 }
 
 // A `logic=` line.
+#[tactic(auto, unfolding(scope::specs::File::Line::line_stop))]
 pub fn logic_line(text: &[u8]) -> usize
     ensures { result ≡ line_stop logic_line text.now }
 {
-    let front = word_stop(text, b"logic=");
-    if front < 6 {
-        return front;
-    }
-    let more = logic_kinds(&text[front..]);
-    front + more
+    kind_line(text, b"logic=", logic_kinds())
 }
 
 // A `step=` line.
+#[tactic(auto, unfolding(scope::specs::File::Line::line_stop))]
 pub fn step_line(text: &[u8]) -> usize
     ensures { result ≡ line_stop step_line text.now }
 {
-    let front = word_stop(text, b"step=");
-    if front < 5 {
-        return front;
-    }
-    let more = step_kinds(&text[front..]);
-    front + more
+    kind_line(text, b"step=", step_kinds())
 }
