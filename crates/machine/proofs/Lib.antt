@@ -1,2 +1,3 @@
 pub mod Fits
 pub mod Turns
+pub mod Parts

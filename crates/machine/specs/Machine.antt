@@ -1,19 +1,21 @@
 -- The walk through the steps over tables of numbers. Crate `walks` proves that it answers as document 01's walk does.
-use Rattle.std.specs.Prelude.{ℕ, zero, suc, ◌+◌, ◌-◌, ◌*◌, Bool, List, get_or, set, replicate, eqb}
+use Rattle.std.specs.Prelude.{ℕ, zero, suc, ◌+◌, ◌-◌, ◌*◌, Bool, List, Result, Ok, Err, get_or, set, replicate, eqb}
+use Prim.{Unit, tt}
 use Rattle.scope.specs.Limits.{most_principals, most_chunks}
 use Rattle.scope.specs.Call.Answer.{Answer, answer}
+use Rattle.common.specs.declared.refused.Refusal.{Refusal}
+use Rattle.common.specs.declared.refused.Refusal.TheVariants.{AllClosed, LeftOpen}
+use Rattle.common.specs.Refused.{number_of}
+use Rattle.common.specs.Rows.{row_at}
 use Rattle.facts.specs.Rows.{root_rows, noted}
 use Rattle.moves.specs.declared.Phase.TheVariants as phase
 use Rattle.moves.specs.declared.Move.{Move}
 use Rattle.steps.specs.declared.Step.{Step}
-use Rattle.steps.specs.Steps.{step_from}
-use Rattle.moves.specs.declared.Judged.{Judged}
-use Rattle.moves.specs.declared.Judged.TheVariants.{Fits, No}
+use Rattle.steps.specs.Steps.{pair_at, step_from}
 use Rattle.moves.specs.Steps.{pick}
-use Rattle.moves.specs.Judge.{row_at, judge_step}
+use Rattle.moves.specs.Judge.{judge_step}
 use Rattle.machine.specs.declared.Obligation.{Obligation}
-use Rattle.machine.specs.declared.Walked.{Walked}
-use Rattle.machine.specs.declared.Walked.TheVariants.{Granted, Refused}
+use Rattle.machine.specs.declared.StepRefusal.{StepRefusal}
 use Rattle.machine.specs.Change.{lab, chunk_count, goal_in, change_of}
 use Rattle.machine.specs.Tables.{places, clause_places, block, top_chunk, chunks_after, saved_after, rows_after}
 
@@ -33,8 +35,8 @@ pub record State : Type 0 where
 
 -- The i-th pair of the step table as a step.
 unfoldable pub step_in : List ℕ → ℕ → Step
-unfolding step_from
-step_in steps i = step_from (get_or steps (i * 2) 0) (get_or steps (i * 2 + 1) 0)
+unfolding pair_at step_from
+step_in steps i = step_from (pair_at steps i).kind (pair_at steps i).number
 
 -- What stands past the end of the open obligations.
 abbrev pub nothing : Obligation
@@ -65,30 +67,36 @@ moved unit s m =
       ats = set s.ats o.clauses (goal_in o.phase).at.0;
     }
 
-unfoldable pub judged_now : List ℕ → State → Step → Judged
+unfoldable pub judged_now : List ℕ → State → Step → Result Move Refusal
 unfolding obligation_at top_chunk judge_step
 judged_now forms s x =
     let o = current s in
     let top = top_chunk s.stack.chunks (s.opened - 1) o.phase in
     judge_step forms s.rows s.clauses s.ats o.phase top x o.worlds o.clauses s.opened
 
-abbrev pub refused_at : ℕ → ℕ → Walked
-refused_at k i = Refused (record { number = k; step = i + 1 })
+abbrev pub refusal_at : Refusal → ℕ → StepRefusal
+refusal_at r i = record { refusal = r; step = i + 1 }
 
-unfoldable pub go_on : Judged → ℕ → (Move → Walked) → Walked
-go_on (Fits m) i next = next m
-go_on (No k) i next = refused_at k i
+abbrev pub Walked : Type 0
+Walked = Result Unit StepRefusal
+
+abbrev pub refused_at : Refusal → ℕ → Walked
+refused_at r i = Err (refusal_at r i)
+
+unfoldable pub go_on : Result Move Refusal → ℕ → (Move → Walked) → Walked
+go_on (Ok m) i next = next m
+go_on (Err r) i next = refused_at r i
 
 -- No step is left: 12 where something is open.
 abbrev pub ended_at : ℕ → ℕ → Walked
-ended_at opened i = pick (eqb opened 0) Granted (refused_at 12 i)
+ended_at opened i = pick (eqb opened 0) (Ok tt) (refused_at LeftOpen i)
 
 -- n steps are left, from step number i (from 0) on: 11 where everything is closed.
 unfoldable pub ran_from : Bool → List ℕ → List ℕ → ℕ → ℕ → State → Walked
 unfolding pick go_on judged_now step_in moved
 ran_from unit forms steps zero i s = ended_at s.opened i
 ran_from unit forms steps (suc n) i s =
-    pick (eqb s.opened 0) (refused_at 11 i)
+    pick (eqb s.opened 0) (refused_at AllClosed i)
     (go_on (judged_now forms s (step_in steps i)) i (λ m. ran_from unit forms steps n (i + 1) (moved unit s m)))
 
 -- The policy lines from the last back to line 0: each is a clause at world 0, and an `sf` line is noted there.
@@ -131,5 +139,5 @@ ran unit forms lines steps count goal stepCount = ran_from unit forms steps step
 
 -- Document 01's number and place for each of the walk's answers.
 unfoldable pub walked_answer : Walked → Answer
-walked_answer Granted = answer 0 0
-walked_answer (Refused r) = answer r.number r.step
+walked_answer (Ok u) = answer 0 0
+walked_answer (Err r) = answer (number_of r.refusal) r.step

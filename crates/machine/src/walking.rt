@@ -1,139 +1,126 @@
 // The walk: each step is judged on the current obligation and its move written in place; the first refusal is the answer.
-ghost use Rattle.std.specs.Prelude.{◌≡◌, set};
-ghost use Rattle.moves.specs.Steps.{number_in};
-ghost use Rattle.moves.specs.Judge.{judge_step};
-ghost use Rattle.machine.specs.Change.{goal_in};
-ghost use Rattle.machine.specs.Machine.{step_in, refused_at, ended_at, first_stack, ran_from, ran};
-ghost use Rattle.machine.specs.Turn.{state_of};
+ghost use Rattle.std.specs.Prelude.{◌≡◌, ◌≤◌};
+ghost use Rattle.scope.specs.Limits.{most_open};
+ghost use Rattle.machine.specs.Change.{chunk_count};
+ghost use Rattle.machine.specs.Room.{Room};
+ghost use Rattle.machine.specs.Machine.{step_in, current, judged_now, moved, refusal_at, ran_from, ran};
+ghost use Rattle.machine.specs.Machine.{obligation_at as obligation_at'};
+ghost use Rattle.machine.specs.Turn.{seen};
 
-use crate::blocks::{HELD, OPENED, SAVED};
-use crate::{Obligation, StepRefusal, Walked, begin, blocks, changes};
-use facts::{ROWS, Row};
-use moves::judging::CLAUSES;
-use moves::{Judged, judging};
-use steps::Step;
+use crate::{HELD, OPENED, Obligation, SAVED, StepRefusal, Walk, begin, blocks, changes};
+use common::{Refusal, put_at, value_at};
+use facts::{Facts, ROWS};
+use moves::judging::Sequent;
+use moves::{Lab, Move, Phase};
+use steps::{Step, World};
 
+// What stands past the end of the open obligations.
+const NOTHING: Obligation = Obligation {
+    phase: Phase::Goal(Lab {
+        form: 0,
+        at: World(0),
+    }),
+    worlds: 0,
+    clauses: 0,
+};
+
+impl StepRefusal {
+    // Steps are numbered from 0 in the table, and from 1 in the answer.
+    fn at(refusal: Refusal, i: u16) -> Self
+        ensures { result ≡ refusal_at refusal i }
+    {
+        StepRefusal {
+            refusal,
+            step: i as u32 + 1,
+        }
+    }
+}
+
+#[tactic(auto, unfolding(crate::specs::Machine::step_in))]
 fn step_at(steps: &[u16], i: u16) -> Step
     ensures { result ≡ step_in steps.now i }
 {
-    let at = i as usize * 2;
-    let kind = common::entry_at(steps, at);
-    let number = common::entry_at(steps, at + 1);
-    steps::step_of(kind, number)
+    Step::from(steps::pair_at(steps, i))
 }
 
-fn refused_at(number: u16, i: u16) -> Walked
-    ensures { result ≡ refused_at number i }
-{
-    let step = i as u32 + 1;
-    Walked::Refused(StepRefusal { number, step })
-}
-
-fn number_in(j: Judged) -> u16
-    ensures { result ≡ number_in j }
-{
-    match j {
-        Judged::Fits(_) => 0,
-        Judged::No(k) => k,
+impl Walk {
+    #[tactic(auto, unfolding(crate::specs::Machine::obligation_at))]
+    fn obligation_at(&self, place: u16) -> Obligation
+        ensures { result ≡ obligation_at' (seen self.now) place }
+    {
+        value_at(&self.obligations, place as usize, NOTHING)
     }
-}
 
-// Step number i judged on the current obligation.
-fn judge_now(
-    forms: &[u16],
-    rows: &[Row; ROWS],
-    clauses: &[u16; CLAUSES],
-    ats: &[u16; CLAUSES],
-    steps: &[u16],
-    i: u16,
-    o: Obligation,
-    top: u16,
-    opened: u16,
-) -> Judged
-    ensures { result ≡ judge_step forms.now rows.now clauses.now ats.now o.phase top (step_in steps.now i) o.worlds o.clauses opened }
-{
-    let phase = o.phase;
-    let worlds = o.worlds;
-    let count = o.clauses;
-    let x = step_at(steps, i);
-    judging::judge_step(
-        forms, rows, clauses, ats, phase, top, x, worlds, count, opened,
-    )
-}
-
-// The topmost chunk, and its world, at the next clause's number, which no sequent has yet.
-fn put_clause(clauses: &mut [u16; CLAUSES], ats: &mut [u16; CLAUSES], o: Obligation, top: u16)
-    ensures clauses_after { clauses.new ≡ set clauses.old o.clauses top }
-    ensures ats_after { ats.new ≡ set ats.old o.clauses (goal_in o.phase).at.0 }
-{
-    let n = o.clauses as usize;
-    let phase = o.phase;
-    let g = changes::goal_in(phase);
-    let u = g.at;
-    common::put_entry(clauses, n, top);
-    common::put_entry(ats, n, u.0);
-}
-
-// The answer where no step is left.
-fn end_at(opened: u16, i: u16) -> Walked
-    ensures { result ≡ ended_at opened i }
-{
-    if 0 < opened {
-        return refused_at(12, i);
-    }
-    Walked::Granted
-}
-
-// All steps, from one open obligation on, in the logic unit or plain.
-fn run_steps(
-    forms: &[u16],
-    steps: &[u16],
-    unit: bool,
-    total: u16,
-    rows: &mut [Row; ROWS],
-    clauses: &mut [u16; CLAUSES],
-    ats: &mut [u16; CLAUSES],
-    begun: Obligation,
-) -> Walked
-    ensures { result ≡ ran_from unit forms.now steps.now total 0 (state_of rows.old (first_stack begun) 1 clauses.old ats.old) }
-{
-    let mut stack = [begun; OPENED];
-    let mut chunks = [0; HELD];
-    let mut saved = [0; SAVED];
-    let mut opened: u16 = 1;
-    for i in 0..total {
-        if opened == 0 {
-            return refused_at(11, i);
-        }
-        let place = opened - 1;
-        let o = stack[place as usize];
-        let top = blocks::top_chunk(&chunks, place, o);
-        let j = judge_now(forms, rows, clauses, ats, steps, i, o, top, opened);
-        let Judged::Fits(m) = j else {
-            return refused_at(number_in(j), i);
+    // A step judged on the current obligation.
+    #[tactic(auto, unfolding(crate::specs::Machine::judged_now))]
+    fn judged(&self, forms: &[u16], x: Step) -> Result<Move, Refusal>
+        ensures { result ≡ judged_now forms.now (seen self.now) x }
+    {
+        let place = self.opened.saturating_sub(1);
+        let o = self.obligation_at(place);
+        let top = blocks::top_chunk(&self.chunks, place, o);
+        let sequent = Sequent {
+            forms,
+            facts: &self.facts,
+            clauses: &self.clauses,
+            worlds: o.worlds,
+            count: o.clauses,
+            opened: self.opened,
         };
-        let made = changes::change_of(m, o, opened);
-        let more = made.opened;
-        let next = stack[changes::less_by(opened, 2) as usize];
-        blocks::move_tables(
-            rows,
-            &mut chunks,
-            &mut saved,
-            unit,
-            m,
-            o,
-            next,
-            opened,
-            more,
-        );
-        put_clause(clauses, ats, o, top);
-        let upper = made.upper;
-        let lower = made.lower;
-        stack[opened as usize] = upper;
-        stack[place as usize] = lower;
-        opened = more;
+        sequent.judge_step(o.phase, top, x)
     }
-    end_at(opened, total)
+
+    // A move of the current obligation. The topmost chunk, and its world, go to the next clause's number, which no sequent has yet.
+    fn make(&mut self, unit: bool, m: Move)
+        requires few { self.old.opened ≤ most_open }
+        requires room { let o = current (seen self.old) in Room m o.worlds o.clauses (chunk_count o.phase) self.old.opened }
+        ensures { seen self.new ≡ moved unit (seen self.old) m }
+    {
+        let opened = self.opened;
+        let place = opened.saturating_sub(1);
+        let below = opened.saturating_sub(2);
+        let o = self.obligation_at(place);
+        let next = self.obligation_at(below);
+        let made = changes::change_of(m, o, opened);
+        let top = Lab {
+            form: blocks::top_chunk(&self.chunks, place, o),
+            at: o.goal().at,
+        };
+        blocks::save_rows(&mut self.saved, &self.facts, o, opened, made.opened);
+        blocks::move_rows(&mut self.facts, &self.saved, unit, m, o, next, below);
+        blocks::move_chunks(&mut self.chunks, m, o, place);
+        put_at(&mut self.clauses, o.clauses as usize, top);
+        put_at(&mut self.obligations, opened as usize, made.upper);
+        put_at(&mut self.obligations, place as usize, made.lower);
+        self.opened = made.opened;
+    }
+
+    // All steps, in the logic unit or plain.
+    fn run(
+        &mut self,
+        forms: &[u16],
+        steps: &[u16],
+        unit: bool,
+        total: u16,
+    ) -> Result<(), StepRefusal>
+        requires { self.old.opened ≤ most_open }
+        ensures { result ≡ ran_from unit forms.now steps.now total 0 (seen self.old) }
+    {
+        for i in 0..total {
+            if self.opened == 0 {
+                return Err(StepRefusal::at(Refusal::AllClosed, i));
+            }
+            let x = step_at(steps, i);
+            let m = self
+                .judged(forms, x)
+                .map_err(|refusal| StepRefusal::at(refusal, i))?;
+            self.make(unit, m);
+        }
+        if 0 < self.opened {
+            return Err(StepRefusal::at(Refusal::LeftOpen, total));
+        }
+        Ok(())
+    }
 }
 
 // The answer about the steps, in the logic unit or plain, for any tables and counts: count policy lines, total steps.
@@ -145,23 +132,17 @@ pub fn walk_steps(
     count: u16,
     goal: u16,
     total: u16,
-) -> Walked
+) -> Result<(), StepRefusal>
     ensures { result ≡ ran unit forms.now lines.now steps.now count goal total }
 {
-    let mut rows = [0; ROWS];
-    let mut clauses = [0; CLAUSES];
-    let mut ats = [0; CLAUSES];
-    begin::note_lines(&mut rows, forms, lines, count);
-    begin::put_lines(&mut clauses, lines, count);
-    let begun = begin::first_one(goal, count);
-    run_steps(
-        forms,
-        steps,
-        unit,
-        total,
-        &mut rows,
-        &mut clauses,
-        &mut ats,
-        begun,
-    )
+    let mut walk = Walk {
+        facts: Facts { rows: [0; ROWS] },
+        clauses: begin::first_clauses(lines, count),
+        obligations: [begin::first_one(goal, count); OPENED],
+        chunks: [0; HELD],
+        saved: [0; SAVED],
+        opened: 1,
+    };
+    begin::note_lines(&mut walk.facts, forms, lines, count);
+    walk.run(forms, steps, unit, total)
 }

@@ -1,16 +1,15 @@
-use native.Mathlib.Omega.{arith}
-use Prim.Native.Nat.{◌<◌}
-use mathlib.Core.Path.{◌≡◌, refl, sym, ◌∙◌}
+use Rattle.std.proofs.Common.{arith, ap, sym, ◌∙◌, ◌≡◌, ◌<◌}
+use Rattle.machine.specs.Machine.{lines_noted}
 use Rattle.machine.proofs.Turns.{line_noted_lem, none_noted}
 use Rattle.machine.proofs.begin.note_lines.Goals as goal
 
-pub loop-left-init : goal.loop-left-init
-loop-left-init c = refl
-
-pub loop-left-preserved : goal.loop-left-preserved
-loop-left-preserved c = let some : 0 < c.loop-left.left = omega arith in
-    line_noted_lem _ _ _ _ _ _ some c.entry_at-f.ensures c.note_line.ensures ∙ c.loop-left.invariant
+pub loop-i-preserved : goal.loop-i-preserved
+loop-i-preserved c =
+    let some : 0 < c.loop-i.i = omega arith in
+    line_noted_lem _ _ _ _ _ _ some c.value_at.ensures c.note_line.ensures ∙ c.loop-i.invariant
 
 pub returns : goal.returns
-returns c = let none : c.loop-left.left ≡ 0 = omega arith in
-    sym (none_noted _ _ _ _ none) ∙ rw c.root_rows.ensures at c.loop-left.invariant
+returns c =
+    let none : c.loop-i.i ≡ 0 = omega arith in
+    sym (none_noted _ _ _ _ none) ∙ c.loop-i.invariant ∙
+    ap (lines_noted c.args.forms.now c.args.lines.now c.args.count) c.root_rows.ensures

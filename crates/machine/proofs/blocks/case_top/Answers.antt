@@ -1,9 +1,15 @@
--- `case_top` meets its contract: each call gives a part of the definition.
-use Rattle.machine.specs.Tables.{case_chunks}
+-- `case_top` meets its contract: the copy is the place's chunks one place above, and each call gives a part of the definition.
+use Rattle.std.proofs.Common.{arith, ◌≡◌, ◌+◌, ◌*◌, ◌≤◌, ◌∙◌, length}
+use Rattle.scope.specs.Limits.{most_chunks}
+use Rattle.machine.specs.Tables.{block, put_block, case_chunks}
+use Rattle.machine.proofs.Parts.{copied_is}
 use Rattle.machine.proofs.blocks.case_top.Goals as goal
 
 pub returns : goal.returns
 unfolding case_chunks
 returns c =
-    rw (c.put_chunk.ensures, c.put_chunks.ensures, c.chunks_at-held.ensures, c.less_by-i.ensures)
-    at c.put_chunk-2.ensures
+    let a = c.args in
+    let long : (a.place + 1) * most_chunks + most_chunks ≤ length a.chunks.now = omega arith in
+    let copy : c.copy_within.new.self ≡ put_block most_chunks a.chunks.now (a.place + 1) (block most_chunks a.chunks.now a.place) =
+    c.copy_within.ensures.after ∙ copied_is most_chunks a.chunks.now a.place long in
+    rw (c.put_chunk.ensures, copy, c.saturating_sub-i.ensures) at c.put_chunk-2.ensures

@@ -1,5 +1,13 @@
--- `put_back` meets its contract: the world and the rows are the definition's.
+-- `put_back` meets its contract: the part that is read is the place's.
+use Rattle.std.proofs.Common.{arith, ◌≡◌, ◌+◌, ◌*◌, ◌≤◌, ◌∙◌, length}
+use Rattle.scope.specs.Limits.{most_principals}
+use Rattle.machine.specs.Tables.{block}
+use Rattle.machine.proofs.Parts.{read_is}
 use Rattle.machine.proofs.blocks.put_back.Goals as goal
 
 pub returns : goal.returns
-returns c = rw (c.saved_at-kept.ensures, c.less_by-m.ensures) at c.put_sf.ensures
+returns c =
+    let long : c.args.below * most_principals + most_principals ≤ length c.args.saved.now = omega arith in
+    let read : c.copy_from_slice.new.self ≡ block most_principals c.args.saved.now c.args.below =
+    c.copy_from_slice.ensures.after ∙ read_is most_principals c.args.saved.now c.args.below long in
+    rw (read, c.saturating_sub.ensures) at c.put_sf.ensures

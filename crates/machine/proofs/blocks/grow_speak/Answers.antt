@@ -1,5 +1,0 @@
--- `grow_speak` meets its contract: the goal is the definition's.
-use Rattle.machine.proofs.blocks.grow_speak.Goals as goal
-
-pub returns : goal.returns
-returns c = rw c.goal_in-g.ensures at c.grow_by.ensures
