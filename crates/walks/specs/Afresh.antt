@@ -15,8 +15,8 @@ use Rattle.trip.proofs.Trip.{checked_fine}
 use Rattle.facts.specs.Rows.{told}
 use Rattle.facts.specs.Kept.{Aimed}
 use Rattle.moves.specs.declared.Move.{Move}
-use Rattle.moves.specs.declared.Judged.{Judged}
-use Rattle.moves.specs.declared.Judged.TheVariants.{Fits}
+use Rattle.std.specs.Prelude.{Result, Ok}
+use Rattle.common.specs.declared.refused.Refusal.{Refusal}
 use Rattle.steps.specs.Steps.{step_is}
 use Rattle.machine.specs.Machine.{State, begun, step_in, judged_now, moved}
 use Rattle.walks.specs.Trees.{Reading, unit_of}
@@ -31,7 +31,7 @@ use Rattle.walks.specs.Simulation.{begins}
 pub data MachineAt (t : Lent) : ℕ → State → Type 0 where
   begin : MachineAt t 0 (begun t.form_table t.policy_table t.policy t.goal)
   make : {i : ℕ} {s : State} {m : Move} → MachineAt t i s → eqb s.opened 0 ≡ false →
-      judged_now t.form_table s (step_in t.step_table i) ≡ Fits m → MachineAt t (suc i) (moved (is_unit t.logic) s m)
+      judged_now t.form_table s (step_in t.step_table i) ≡ Ok m → MachineAt t (suc i) (moved (is_unit t.logic) s m)
 
 -- The walk's open obligations after the same steps: each went on to others, within the limits.
 pub data WalkAt (t : Lent) : ℕ → List Obligation → Type 0 where
@@ -48,15 +48,15 @@ related_same : {T : Reading} {s : State} {o : Obligation} {waiting : List Obliga
 related_same {T} (now_open {ls} frame down rests waits) f aimed = told_has T ls f frame.kept aimed
 
 -- A step that the machine makes the walk goes on with,
-walk_too : {T : Reading} {s : State} {waiting : List Obligation} {j : Judged} {on : Onward} → Match T s waiting j on → (m : Move) →
-    j ≡ Fits m → (new : List Obligation) × (on ≡ onto new) × (within (length waiting) new ≡ true) × Related T (moved (unit_of T) s m) (new ++ waiting)
+walk_too : {T : Reading} {s : State} {waiting : List Obligation} {j : Result Move Refusal} {on : Onward} → Match T s waiting j on → (m : Move) →
+    j ≡ Ok m → (new : List Obligation) × (on ≡ onto new) × (within (length waiting) new ≡ true) × Related T (moved (unit_of T) s m) (new ++ waiting)
 walk_too no_fit m e = never cc
 walk_too (no_room w) m e = never cc
 walk_too (fits {m = k} {os} w r) m e = let a : k ≡ m = cc in (os, refl, w, rw a at r)
 
 -- and a step that the walk goes on with the machine makes.
-machine_too : {T : Reading} {s : State} {waiting : List Obligation} {j : Judged} {on : Onward} → Match T s waiting j on →
-    (new : List Obligation) → on ≡ onto new → within (length waiting) new ≡ true → (m : Move) × (j ≡ Fits m) × Related T (moved (unit_of T) s m) (new ++ waiting)
+machine_too : {T : Reading} {s : State} {waiting : List Obligation} {j : Result Move Refusal} {on : Onward} → Match T s waiting j on →
+    (new : List Obligation) → on ≡ onto new → within (length waiting) new ≡ true → (m : Move) × (j ≡ Ok m) × Related T (moved (unit_of T) s m) (new ++ waiting)
 machine_too no_fit new e w = never cc
 machine_too (no_room {os} v) new e w = let a : os ≡ new = cc in never cc
 machine_too (fits {m} {os} v r) new e w = let a : os ≡ new = cc in (m, refl, rw a at r)

@@ -10,16 +10,19 @@ use Rattle.scope.specs.Limits.{most_worlds, most_clauses, most_open, most_chunks
 use Rattle.scope.specs.Logic.Obligation.{Lab, lab, Sequent, with_fact, with_clause, Phase, chunks, behind, Obligation, ob}
 use Rattle.scope.specs.Logic.Room.{chunk_count, met_count, open_count, within}
 use Rattle.scope.specs.Logic.Walk.{Onward, onto, alone, step_on}
-use Rattle.moves.specs.declared.Judged.{Judged}
-use Rattle.moves.specs.declared.Judged.TheVariants.{Fits, No}
-use Rattle.moves.specs.declared.Row as R
+use Rattle.std.specs.Prelude.{Result, Ok, Err}
+use Rattle.common.specs.declared.refused.Refusal.{Refusal}
+use Rattle.common.specs.declared.refused.Refusal.TheVariants.{LimitPassed}
+use Rattle.moves.specs.declared.Move.{Move}
+use Rattle.common.specs.declared.rows.Row as R
 use Rattle.moves.specs.declared.Phase.TheVariants as phase
 use Rattle.moves.specs.declared.Move.TheVariants as move
 use Rattle.steps.specs.declared.Step.{Step}
 use Rattle.steps.specs.declared.Step.TheVariants as step
 use Rattle.steps.specs.Steps.{step_is}
 use Rattle.moves.specs.Steps.{pick, principal, push_step, split_step, case_step, absurd_step, drop_step, note_step}
-use Rattle.moves.specs.Judge.{row_at, on_chunk, chunk_step}
+use Rattle.common.specs.Rows.{row_at}
+use Rattle.moves.specs.Judge.{on_chunk, chunk_step}
 use Rattle.machine.specs.Change as numbers
 use Rattle.machine.specs.Machine.{Stack}
 use Rattle.walks.specs.Trees.{Means, Reading}
@@ -30,7 +33,7 @@ use Rattle.walks.specs.Moved.{moved_close}
 use Rattle.walks.specs.Moves.{moved_drop, moved_note, moved_push, moved_split, moved_case}
 use Rattle.walks.specs.Rooms.{open_over, clauses_over, chunks_over, chunks_length}
 use Rattle.walks.specs.Fitting.{alone_within, pair_within, none_within, one_within, clauses_length, clauses_few}
-use Rattle.walks.specs.Match.{Match, no_fit, no_room, fits, if_room, only_top, only_bot, only_and, only_or, only_sf}
+use Rattle.walks.specs.Match.{Match, no_room, fits, misfit, if_room, only_top, only_bot, only_and, only_or, only_sf}
 use Rattle.walks.specs.Match.{only_pushed}
 
 -- The goal behind chunks has as many as there are, and has met no subgoal.
@@ -66,7 +69,7 @@ module _ {T : Reading} {rows cl ats ch sv : List ℕ} {stack : Stack} {es : List
   abbrev there : Phase
   there = chunks (T.tree topmost) rest aim
 
-  abbrev Fit : Judged → Onward → Type 0
+  abbrev Fit : Result Move Refusal → Onward → Type 0
   Fit = Match T (state_of rows stack (suc n) cl ats) waiting
 
   abbrev w : ℕ
@@ -102,7 +105,7 @@ module _ {T : Reading} {rows cl ats ch sv : List ℕ} {stack : Stack} {es : List
   unfolding split_step step_on chunk_count met_count
   split_fits =
       let long : length rest ≡ i = chunks_length T.tree i ch in
-      only_and (λ l r. pick (leb most_chunks (suc i)) (No 10) (Fits (move.Split l r))) (λ h k. alone here (chunks h (k ∷ rest) aim))
+      only_and (λ l r. pick (leb most_chunks (suc i)) (Err LimitPassed) (Ok (move.Split l r))) (λ h k. alone here (chunks h (k ∷ rest) aim))
       (λ h k p q.
       if_room most_chunks (suc i)
       (λ full. no_room (chunks_over w here (chunks (T.tree h) (T.tree k ∷ rest) aim) (omega arith)))
@@ -115,7 +118,7 @@ module _ {T : Reading} {rows cl ats ch sv : List ℕ} {stack : Stack} {es : List
   unfolding case_step step_on open_count chunk_count met_count
   case_fits =
       let long : length rest ≡ i = chunks_length T.tree i ch in
-      only_or (λ l r. pick (leb most_open (suc n)) (No 10) (Fits (move.Case l r)))
+      only_or (λ l r. pick (leb most_open (suc n)) (Err LimitPassed) (Ok (move.Case l r)))
       (λ h k. onto (ob here (chunks h rest aim) ∷ ob here (chunks k rest aim) ∷ []))
       (λ h k p q.
       if_room most_open (suc n)
@@ -138,7 +141,7 @@ module _ {T : Reading} {rows cl ats ch sv : List ℕ} {stack : Stack} {es : List
   note_fits : Fit (note_step row) (step_on O.Note here there)
   unfolding note_step step_on
   note_fits =
-      only_sf (λ a b. Fits (move.Note (principal a) (principal b))) (λ a b. alone (with_fact here (Fact.sf u a b)) (behind rest aim))
+      only_sf (λ a b. Ok (move.Note (principal a) (principal b))) (λ a b. alone (with_fact here (Fact.sf u a b)) (behind rest aim))
       (λ a b p q.
       fits (behind_within (with_fact here (Fact.sf u a b)) frame.kept.worlds (clauses_few frame))
       (moved_note frame down named newest few known waits p q))
@@ -146,18 +149,18 @@ module _ {T : Reading} {rows cl ats ch sv : List ℕ} {stack : Stack} {es : List
 
   pub chunk_steps : (x : Step) → Fit (chunk_step T.table topmost (suc i) x c (suc n)) (step_on (step_is x) here there)
   unfolding chunk_step on_chunk step_on step_is
-  chunk_steps step.And = no_fit
-  chunk_steps step.Or1 = no_fit
-  chunk_steps step.Or2 = no_fit
-  chunk_steps step.Imp = no_fit
-  chunk_steps step.Says = no_fit
-  chunk_steps step.Top = no_fit
-  chunk_steps step.Sf = no_fit
-  chunk_steps (step.Use i) = no_fit
-  chunk_steps step.Left = no_fit
-  chunk_steps step.Right = no_fit
-  chunk_steps (step.To v) = no_fit
-  chunk_steps step.Hit = no_fit
+  chunk_steps step.And = misfit
+  chunk_steps step.Or1 = misfit
+  chunk_steps step.Or2 = misfit
+  chunk_steps step.Imp = misfit
+  chunk_steps step.Says = misfit
+  chunk_steps step.Top = misfit
+  chunk_steps step.Sf = misfit
+  chunk_steps (step.Use i) = misfit
+  chunk_steps step.Left = misfit
+  chunk_steps step.Right = misfit
+  chunk_steps (step.To v) = misfit
+  chunk_steps step.Hit = misfit
   chunk_steps step.Push = push_fits
   chunk_steps step.Split = split_fits
   chunk_steps step.Case = case_fits

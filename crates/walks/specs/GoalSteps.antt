@@ -15,18 +15,21 @@ use Rattle.scope.specs.Logic.Obligation.{Lab, lab, Sequent, with_world, Phase, g
 use Rattle.scope.specs.Logic.Room.{chunk_count, met_count, open_count}
 use Rattle.scope.specs.Logic.Walk.{Onward, onto, alone, need, has, step_on, on_clause}
 use Rattle.facts.specs.Rows.{told}
-use Rattle.moves.specs.declared.Judged.{Judged}
-use Rattle.moves.specs.declared.Judged.TheVariants.{Fits, No}
+use Rattle.std.specs.Prelude.{Result, Ok, Err}
+use Rattle.common.specs.declared.refused.Refusal.{Refusal}
+use Rattle.common.specs.declared.refused.Refusal.TheVariants.{FactAbsent, LimitPassed}
+use Rattle.moves.specs.declared.Move.{Move}
 use Rattle.moves.specs.declared.Lab as L
-use Rattle.moves.specs.declared.Row as R
+use Rattle.common.specs.declared.rows.Row as R
 use Rattle.moves.specs.declared.Phase.TheVariants as phase
 use Rattle.moves.specs.declared.Move.TheVariants as move
 use Rattle.steps.specs.declared.Step.{Step}
 use Rattle.steps.specs.declared.Step.TheVariants as step
 use Rattle.steps.specs.Steps.{step_is}
-use Rattle.moves.specs.declared.Found.TheVariants as found
+use Rattle.std.specs.Prelude.{Some, None}
 use Rattle.moves.specs.Steps.{pick, principal, and_step, or1_step, or2_step, imp_step, says_step, top_step, sf_step, if_found, use_step}
-use Rattle.moves.specs.Judge.{row_at, find_clause, use_clause, on_goal, goal_step}
+use Rattle.common.specs.Rows.{row_at}
+use Rattle.moves.specs.Judge.{find_clause, use_clause, on_goal, goal_step}
 use Rattle.machine.specs.Change as numbers
 use Rattle.machine.specs.Change.{goal_in}
 use Rattle.machine.specs.Machine.{Stack}
@@ -38,7 +41,7 @@ use Rattle.walks.specs.Moved.{moved_close}
 use Rattle.walks.specs.Moves.{moved_go, moved_aim, moved_both, moved_less, moved_speak}
 use Rattle.walks.specs.Rooms.{open_over, worlds_over}
 use Rattle.walks.specs.Fitting.{alone_within, pair_within, none_within, one_within, clauses_few, clause_at_lem, clause_past}
-use Rattle.walks.specs.Match.{Match, no_fit, no_room, fits, told_has, if_room, if_need, only_atom, only_top, only_and}
+use Rattle.walks.specs.Match.{Match, no_room, fits, told_has, misfit, no_clause, if_room, if_absent, only_atom, only_top, only_and}
 use Rattle.walks.specs.Match.{only_or, only_imp, only_says, only_sf, sf_kind}
 
 module _ {T : Reading} {rows cl ats ch sv : List ℕ} {stack : Stack} {es : List StackEntry} {n m c f u : ℕ} {fs : List Fact}
@@ -47,7 +50,7 @@ module _ {T : Reading} {rows cl ats ch sv : List ℕ} {stack : Stack} {es : List
   abbrev here : Sequent
   here = seq T (suc m) fs ls
 
-  abbrev Fit : Judged → Onward → Type 0
+  abbrev Fit : Result Move Refusal → Onward → Type 0
   Fit = Match T (state_of rows stack (suc n) cl ats) waiting
 
   abbrev there : Phase
@@ -68,7 +71,7 @@ module _ {T : Reading} {rows cl ats ch sv : List ℕ} {stack : Stack} {es : List
   and_fits : Fit (and_step row (suc n)) (step_on O.And here there)
   unfolding and_step goal_in step_on open_count met_count chunk_count
   and_fits =
-      only_and (λ l r. pick (leb most_open (suc n)) (No 10) (Fits (move.Both l r)))
+      only_and (λ l r. pick (leb most_open (suc n)) (Err LimitPassed) (Ok (move.Both l r)))
       (λ g h. onto (ob here (at_u g) ∷ ob here (at_u h) ∷ []))
       (λ g h p q.
       if_room most_open (suc n)
@@ -78,7 +81,7 @@ module _ {T : Reading} {rows cl ats ch sv : List ℕ} {stack : Stack} {es : List
       (T.means f named)
 
   -- A goal in its place.
-  goes : (g : ℕ) → g < T.formulas → Fit (Fits (move.Go g)) (alone here (at_u (T.tree g)))
+  goes : (g : ℕ) → g < T.formulas → Fit (Ok (move.Go g)) (alone here (at_u (T.tree g)))
   unfolding goal_in met_count chunk_count
   goes g p =
       fits (alone_within frame w (at_u (T.tree g)) (omega arith) (omega (arith, count, frame.room)))
@@ -87,17 +90,17 @@ module _ {T : Reading} {rows cl ats ch sv : List ℕ} {stack : Stack} {es : List
   or1_fits : Fit (or1_step row) (step_on O.Or1 here there)
   unfolding or1_step step_on
   or1_fits =
-      only_or (λ l r. Fits (move.Go l)) (λ g h. alone here (at_u g)) (λ g h p q. goes g p) (T.means f named)
+      only_or (λ l r. Ok (move.Go l)) (λ g h. alone here (at_u g)) (λ g h p q. goes g p) (T.means f named)
 
   or2_fits : Fit (or2_step row) (step_on O.Or2 here there)
   unfolding or2_step step_on
   or2_fits =
-      only_or (λ l r. Fits (move.Go r)) (λ g h. alone here (at_u h)) (λ g h p q. goes h q) (T.means f named)
+      only_or (λ l r. Ok (move.Go r)) (λ g h. alone here (at_u h)) (λ g h p q. goes h q) (T.means f named)
 
   imp_fits : Fit (imp_step row (suc m)) (step_on O.Imp here there)
   unfolding imp_step step_on met_count chunk_count
   imp_fits =
-      only_imp (λ l r. pick (leb most_worlds (suc m)) (No 10) (Fits (move.Less l r)))
+      only_imp (λ l r. pick (leb most_worlds (suc m)) (Err LimitPassed) (Ok (move.Less l r)))
       (λ g h. alone (with_world here (Fact.le u (suc m))) (chunks g [] (lab h (suc m))))
       (λ g h p q.
       if_room most_worlds (suc m)
@@ -112,7 +115,7 @@ module _ {T : Reading} {rows cl ats ch sv : List ℕ} {stack : Stack} {es : List
   says_fits : Fit (says_step row (suc m)) (step_on O.Says here there)
   unfolding says_step step_on met_count chunk_count
   says_fits =
-      only_says (λ l r. pick (leb most_worlds (suc m)) (No 10) (Fits (move.Speak (principal l) r)))
+      only_says (λ l r. pick (leb most_worlds (suc m)) (Err LimitPassed) (Ok (move.Speak (principal l) r)))
       (λ a g. alone (with_world here (Fact.by a u (suc m))) (goal (lab g (suc m))))
       (λ a g p q.
       if_room most_worlds (suc m)
@@ -123,7 +126,7 @@ module _ {T : Reading} {rows cl ats ch sv : List ℕ} {stack : Stack} {es : List
       (moved_speak frame down inside free waits p q)))
       (T.means f named)
 
-  closes : Fit (Fits move.Close) (onto [])
+  closes : Fit (Ok move.Close) (onto [])
   closes = fits (none_within w (omega (arith, count, frame.room))) (moved_close frame down waits)
 
   top_fits : Fit (top_step row) (step_on O.Top here there)
@@ -133,14 +136,14 @@ module _ {T : Reading} {rows cl ats ch sv : List ℕ} {stack : Stack} {es : List
   sf_fits : Fit (sf_step rows row (numbers.world u)) (step_on O.Sf here there)
   unfolding sf_step step_on
   sf_fits =
-      only_sf (λ a b. pick (told rows (Fact.sf u a b)) (Fits move.Close) (No 9)) (λ a b. need 9 (has here (Fact.sf u a b)) (onto []))
-      (λ a b p q. if_need 9 (told rows (Fact.sf u a b)) (has here (Fact.sf u a b))
+      only_sf (λ a b. pick (told rows (Fact.sf u a b)) (Ok move.Close) (Err FactAbsent)) (λ a b. need 9 (has here (Fact.sf u a b)) (onto []))
+      (λ a b p q. if_absent (told rows (Fact.sf u a b)) (has here (Fact.sf u a b))
       (told_has T ls (Fact.sf u a b) frame.kept (inside, p, q)) closes)
       (T.means f named)
 
   -- The clause of a number, which is no `sf` line, in focus.
-  abbrev into : L.Lab → Judged
-  into clause = Fits (move.Aim clause.form clause.at)
+  abbrev into : L.Lab → Result Move Refusal
+  into clause = Ok (move.Aim clause.form clause.at)
 
   abbrev aiming : ℕ → Lab → Onward
   aiming q l = alone here (focus l q u [])
@@ -161,9 +164,9 @@ module _ {T : Reading} {rows cl ats ch sv : List ℕ} {stack : Stack} {es : List
       known h = frame.clauses.known.each i h
 
       by_kind_lem : i < c → (t : Bool) → is_sf (T.tree number) ≡ t →
-          Fit (if_found (pick t found.Nothing (found.At (numbers.lab number (get_or ats i 0)))) into)
+          Fit (if_found (pick t None (Some (numbers.lab number (get_or ats i 0)))) into)
           (on_clause (some clause) (aiming q))
-      by_kind_lem h true e = rw e no_fit
+      by_kind_lem h true e = rw e no_clause
       by_kind_lem h false e =
           rw e
           (fits (alone_within frame w (focus clause q u []) (omega arith) (omega (arith, count, frame.room)))
@@ -172,11 +175,11 @@ module _ {T : Reading} {rows cl ats ch sv : List ℕ} {stack : Stack} {es : List
       by_count : (t : Bool) → leb c i ≡ t →
           Fit
           (if_found
-          (pick t found.Nothing
-          (pick (eqb (row_at T.table number).kind 7) found.Nothing (found.At (numbers.lab number (get_or ats i 0)))))
+          (pick t None
+          (pick (eqb (row_at T.table number).kind 7) None (Some (numbers.lab number (get_or ats i 0)))))
           into)
           (on_clause (get_elem? ls i) (aiming q))
-      by_count true e = rw (clause_past i frame.clauses (leb-true c i e)) no_fit
+      by_count true e = rw (clause_past i frame.clauses (leb-true c i e)) no_clause
       by_count false e =
           let h : i < c = leb-false c i e in
           rw (clause_at_lem i frame.clauses h)
@@ -200,13 +203,13 @@ module _ {T : Reading} {rows cl ats ch sv : List ℕ} {stack : Stack} {es : List
   goal_steps step.Top = top_fits
   goal_steps step.Sf = sf_fits
   goal_steps (step.Use i) = use_fits i.0
-  goal_steps step.Left = no_fit
-  goal_steps step.Right = no_fit
-  goal_steps (step.To v) = no_fit
-  goal_steps step.Hit = no_fit
-  goal_steps step.Push = no_fit
-  goal_steps step.Split = no_fit
-  goal_steps step.Case = no_fit
-  goal_steps step.Absurd = no_fit
-  goal_steps step.Drop = no_fit
-  goal_steps step.Note = no_fit
+  goal_steps step.Left = misfit
+  goal_steps step.Right = misfit
+  goal_steps (step.To v) = misfit
+  goal_steps step.Hit = misfit
+  goal_steps step.Push = misfit
+  goal_steps step.Split = misfit
+  goal_steps step.Case = misfit
+  goal_steps step.Absurd = misfit
+  goal_steps step.Drop = misfit
+  goal_steps step.Note = misfit

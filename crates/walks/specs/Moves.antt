@@ -21,7 +21,7 @@ use Rattle.moves.specs.declared.Phase as D
 use Rattle.moves.specs.declared.Phase.TheVariants as phase
 use Rattle.moves.specs.declared.Move.TheVariants as move
 use Rattle.moves.specs.Steps.{pick, principal}
-use Rattle.moves.specs.Judge.{row_at}
+use Rattle.common.specs.Rows.{row_at}
 use Rattle.machine.specs.Change as numbers
 use Rattle.machine.specs.Change.{goal_in, change_of}
 use Rattle.machine.specs.Tables.{places, top_chunk, split_chunks, case_chunks, chunks_after, rows_after}

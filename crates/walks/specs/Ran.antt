@@ -7,7 +7,8 @@ use Rattle.scope.specs.Logic.Obligation as O
 use Rattle.scope.specs.Logic.Obligation.{Lab, Phase, Obligation}
 use Rattle.scope.specs.Logic.Room.{within}
 use Rattle.scope.specs.Logic.Walk.{Onward, step_on, after, walk}
-use Rattle.moves.specs.declared.Judged.{Judged}
+use Rattle.std.specs.Prelude.{Result}
+use Rattle.common.specs.declared.refused.Refusal.{Refusal}
 use Rattle.moves.specs.declared.Move as M
 use Rattle.moves.specs.declared.Phase as D
 use Rattle.steps.specs.declared.Step.{Step}
@@ -15,9 +16,9 @@ use Rattle.steps.specs.Steps.{step_is}
 use Rattle.moves.specs.Steps.{pick}
 use Rattle.moves.specs.Judge.{judge_step}
 use Rattle.machine.specs.declared.Obligation as E
-use Rattle.machine.specs.declared.Walked.{Walked}
 use Rattle.machine.specs.Tables.{top_chunk}
-use Rattle.machine.specs.Machine.{Stack, State, nothing, obligation_at, step_in, moved, judged_now, go_on, ran_from, walked_answer}
+use Rattle.common.specs.Refused.{number_of}
+use Rattle.machine.specs.Machine.{Stack, State, nothing, obligation_at, step_in, moved, Walked, judged_now, go_on, ran_from, walked_answer}
 use Rattle.walks.specs.Trees.{Reading, unit_of}
 use Rattle.machine.specs.Turn.{state_of}
 use Rattle.walks.specs.Related.{StackEntry, head_of, down_from, at_goal_lem, at_chunks, Stands, at_rest, in_focus_lem, seq, Waits, met_in, Standing}
@@ -58,11 +59,11 @@ stepped {T} (now_open {rows} {cl} {ats} {ch} {sv} {stack} {n} {m} {c} {ph} frame
     rw (judged_at T.table rows stack n cl ats x (head_of ph (suc m) c) (head_is stack n frame.on_top_lem)) (by_phase frame down stands waits x)
 
 -- What follows a step.
-after_match : {T : Reading} {s : State} {waiting : List Obligation} {j : Judged} {mv : Onward} → Match T s waiting j mv →
+after_match : {T : Reading} {s : State} {waiting : List Obligation} {j : Result M.Move Refusal} {mv : Onward} → Match T s waiting j mv →
     (i : ℕ) (next : M.Move → Walked) (go : List Obligation → Answer) →
     ((m : M.Move) (os : List Obligation) → Related T (moved (unit_of T) s m) os → walked_answer (next m) ≡ go os) →
     walked_answer (go_on j i next) ≡ after within i waiting mv go
-unfolding walked_answer go_on after
+unfolding walked_answer go_on after number_of
 after_match no_fit i next go same = rw add-one refl
 after_match (no_room e) i next go same = rw (e, add-one) refl
 after_match {waiting} (fits {m} {os} e r) i next go same = rw e (same m (os ++ waiting) r)
@@ -80,7 +81,7 @@ steps_from steps (suc n) i = step_is (step_in steps i) ∷ steps_from steps n (s
 
 pub ran_from_lem : {T : Reading} (steps : List ℕ) (n i : ℕ) (s : State) (os : List Obligation) → Related T s os →
     walked_answer (ran_from (unit_of T) T.table steps n i s) ≡ walk within i os (steps_from steps n i)
-unfolding ran_from walk steps_from walked_answer pick
+unfolding ran_from walk steps_from walked_answer pick number_of
 ran_from_lem steps zero i s [] r = rw (none_open r) refl
 ran_from_lem steps zero i s (o ∷ waiting) r = rw (some_open r, add-one) refl
 ran_from_lem steps (suc n) i s [] r = rw (none_open r, add-one) refl

@@ -8,7 +8,7 @@ use Rattle.scope.specs.File.Kinds.{kind_in, form_kinds}
 use Rattle.scope.specs.Call.Tables.{Lent, form_entry, unpack}
 use Rattle.scope.specs.Tools.Unpack.{unpack_length}
 use Rattle.trip.specs.RowRanges as ranges
-use Rattle.moves.specs.Judge.{row_at}
+use Rattle.common.specs.Rows.{row_at}
 use Rattle.walks.specs.Trees.{Means, means_atom, means_top, means_bot, means_and, means_or, means_imp, means_says, means_sf, Reading}
 use Rattle.walks.specs.Trees.{tree_row}
 use Rattle.walks.specs.Unpacked.{form_at_lem}

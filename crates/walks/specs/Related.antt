@@ -10,7 +10,7 @@ use Rattle.facts.specs.Rows.{sf_rows}
 use Rattle.facts.specs.Kept.{Kept, Agree}
 use Rattle.moves.specs.declared.Phase as D
 use Rattle.moves.specs.declared.Phase.TheVariants as phase
-use Rattle.moves.specs.Judge.{row_at}
+use Rattle.common.specs.Rows.{row_at}
 use Rattle.machine.specs.declared.Obligation as E
 use Rattle.machine.specs.Change as numbers
 use Rattle.machine.specs.Tables.{places, clause_places, block}

@@ -7,7 +7,7 @@ use Rattle.scope.specs.Limits.{most_principals}
 use Rattle.scope.specs.Logic.Facts.{Logic, is_unit}
 use Rattle.scope.specs.Logic.Form.{Form, atom, top, bot, and, or, imp, says, sf}
 use Rattle.scope.specs.File.Request.{Row, row_form, forms_after, formula}
-use Rattle.moves.specs.Judge.{row_at}
+use Rattle.common.specs.Rows.{row_at}
 
 -- The row (kind, left, right) means a tree, where its operands are among F formulas and k principals.
 pub data Means (k F : ℕ) (tree : ℕ → Form) : ℕ → ℕ → ℕ → Form → Type 0 where

@@ -4,8 +4,8 @@ use Rattle.std.proofs.Common.{ap, ◌∙◌, arith, add-zero, get_or-take, get_o
 use Rattle.scope.specs.File.Request.{Row}
 use Rattle.scope.specs.Logic.Obligation.{step_of}
 use Rattle.scope.specs.Call.Tables.{Entry, form_entry, policy_entry, step_entry, unpack}
-use Rattle.steps.specs.Steps.{step_is, step_means}
-use Rattle.moves.specs.Judge.{row_at}
+use Rattle.steps.specs.Steps.{pair_at, step_is, step_means}
+use Rattle.common.specs.Rows.{row_at}
 use Rattle.machine.specs.Machine.{step_in}
 use Rattle.walks.specs.Ran.{steps_from}
 
@@ -36,8 +36,10 @@ form_at_lem n f t d h =
     let a : 0 < 3 = omega arith in
     let b : 1 < 3 = omega arith in
     let c : 2 < 3 = omega arith in
-    unpack_at form_entry n f t d h ∙
-    rw (first_at 3 (f * 3) t a, number_at 3 1 (f * 3) t b, number_at 3 2 (f * 3) t c) refl
+    let place : 3 * f ≡ f * 3 = omega arith in
+    rw place
+    (unpack_at form_entry n f t d h ∙
+    rw (first_at 3 (f * 3) t a, number_at 3 1 (f * 3) t b, number_at 3 2 (f * 3) t c) refl)
 
 pub line_at : (n i : ℕ) (t : List ℕ) → i < n → get_or (unpack policy_entry n t) i 0 ≡ get_or t i 0
 line_at n i t h =
@@ -47,11 +49,12 @@ line_at n i t h =
 
 -- A step by its two numbers.
 step_at_lem : (t : List ℕ) (i : ℕ) → step_is (step_in t i) ≡ step_of (step_entry.get (take 2 (drop (i * 2) t)))
-unfolding step_in
+unfolding step_in pair_at
 step_at_lem t i =
     let a : 0 < 2 = omega arith in
     let b : 1 < 2 = omega arith in
-    rw (first_at 2 (i * 2) t a, number_at 2 1 (i * 2) t b)
+    let place : 2 * i ≡ i * 2 = omega arith in
+    rw (place, first_at 2 (i * 2) t a, number_at 2 1 (i * 2) t b)
     (step_means record { kind = get_or t (i * 2) 0; left = get_or t (i * 2 + 1) 0; right = 0 })
 
 steps_after : (t : List ℕ) (n i : ℕ) → steps_from t n i ≡ map step_of (unpack step_entry n (drop (i * 2) t))
