@@ -34,72 +34,66 @@ fn at_line(refused: Result<(), Refusal>, place: u32) -> Result<(), Answer>
     refused.map_err(|refusal| Answer::at(refusal, place))
 }
 
-fn check_counts(principals: u16, atoms: u16, formulas: u16) -> Result<(), Answer>
-    ensures { result ≡ met_in (count_answers principals atoms formulas) }
+fn check_counts(counts: Counts) -> Result<(), Answer>
+    ensures { result ≡ met_in (count_answers counts.principals counts.atoms counts.formulas) }
 {
-    let first = rows::check_count(1, common::MOST_PRINCIPALS, principals);
+    let first = rows::check_count(1, common::MOST_PRINCIPALS, counts.principals);
     at_line(first, common::principals_at())?;
-    let second = rows::check_count(1, common::MOST_ATOMS, atoms);
+    let second = rows::check_count(1, common::MOST_ATOMS, counts.atoms);
     at_line(second, common::atoms_at())?;
-    let third = rows::check_count(1, common::MOST_FORMULAS, formulas);
+    let third = rows::check_count(1, common::MOST_FORMULAS, counts.formulas);
     at_line(third, common::formulas_at())
 }
 
 // Formula number i, and the earlier one that it repeats.
-fn check_form(
-    principals: u16,
-    atoms: u16,
-    i: u16,
-    row: Row,
-    earlier: Option<u16>,
-) -> Result<(), Answer>
-    ensures { result ≡ checked_of (answer (first_of (row_refusal form_kinds principals atoms i (as_row row)) (repeat_refusal earlier)) (form_at i)) }
+fn check_form(counts: Counts, i: u16, row: Row, earlier: Option<u16>) -> Result<(), Answer>
+    ensures { result ≡ checked_of (answer (first_of (row_refusal form_kinds counts.principals counts.atoms i (as_row row)) (repeat_refusal earlier)) (form_at i)) }
 {
     let own = refusals::check_form(
         usize::from(row.kind),
         u32::from(row.left),
         u32::from(row.right),
-        principals,
-        atoms,
+        counts.principals,
+        counts.atoms,
         i,
     );
     at_line(numbering::refusal_with(own, earlier), common::form_at(i))
 }
 
-fn check_forms(principals: u16, atoms: u16, count: u16, forms: &[u16]) -> Result<(), Answer>
-    requires { count ≤ most_formulas }
-    ensures { result ≡ met_in (form_answers principals atoms (unpack form_entry count forms.now)) }
+fn check_forms(counts: Counts, forms: &[u16]) -> Result<(), Answer>
+    requires { counts.formulas ≤ most_formulas }
+    ensures { result ≡ met_in (form_answers counts.principals counts.atoms (unpack form_entry counts.formulas forms.now)) }
 {
     let mut slots = [0u16; SLOTS];
-    for i in 0..count {
+    for i in 0..counts.formulas {
         let row = common::row_at(forms, i);
         let earlier = numbering::enter_row(forms, &mut slots, i, row);
-        check_form(principals, atoms, i, row, earlier)?;
+        check_form(counts, i, row, earlier)?;
     }
     Ok(())
 }
 
-fn check_clauses(classes: &[Class], formulas: u16, count: u16, policy: &[u16]) -> Result<(), Answer>
-    ensures { result ≡ met_in (policy_answers classes.now formulas (unpack policy_entry count policy.now)) }
+fn check_clauses(counts: Counts, classes: &[Class], policy: &[u16]) -> Result<(), Answer>
+    ensures { result ≡ met_in (policy_answers classes.now counts.formulas (unpack policy_entry counts.policy policy.now)) }
 {
-    for i in 0..count {
+    for i in 0..counts.policy {
         let f = value_at(policy, usize::from(i), 0);
         let class = value_at(classes, usize::from(f), Class::NONE);
-        let line = rows::check_class(formulas, f, class.policy);
-        at_line(line, common::clause_at(formulas, i))?;
+        let line = rows::check_class(counts.formulas, f, class.policy);
+        at_line(line, common::clause_at(counts.formulas, i))?;
     }
     Ok(())
 }
 
-fn check_steps(formulas: u16, policy: u16, count: u16, steps: &[u16]) -> Result<(), Answer>
-    ensures { result ≡ met_in (step_answers formulas policy (unpack step_entry count steps.now)) }
+fn check_steps(counts: Counts, steps: &[u16]) -> Result<(), Answer>
+    ensures { result ≡ met_in (step_answers counts.formulas counts.policy (unpack step_entry counts.steps steps.now)) }
 {
-    for i in 0..count {
+    for i in 0..counts.steps {
         let at = 2 * usize::from(i);
         let kind = usize::from(value_at(steps, at, 0));
         let carried = u32::from(value_at(steps, at + 1, 0));
         let step = refusals::check_step(kind, carried, 0);
-        at_line(step, common::step_at(formulas, policy, i))?;
+        at_line(step, common::step_at(counts.formulas, counts.policy, i))?;
     }
     Ok(())
 }
@@ -125,8 +119,8 @@ fn check_past(counts: Counts, forms: &[u16], policy: &[u16], steps: &[u16]) -> R
 fn check_formulas(counts: Counts, forms: &[u16]) -> Result<(), Answer>
     ensures { result ≡ met_in (form_part (lent_with counts forms.now [] [])) }
 {
-    check_counts(counts.principals, counts.atoms, counts.formulas)?;
-    check_forms(counts.principals, counts.atoms, counts.formulas, forms)
+    check_counts(counts)?;
+    check_forms(counts, forms)
 }
 
 // The count of policy lines, then those lines.
@@ -135,7 +129,7 @@ fn check_policy(counts: Counts, classes: &[Class], policy: &[u16]) -> Result<(),
 {
     let count = rows::check_count(0, common::MOST_POLICY_LINES, counts.policy);
     at_line(count, common::clauses_at(counts.formulas))?;
-    check_clauses(classes, counts.formulas, counts.policy, policy)
+    check_clauses(counts, classes, policy)
 }
 
 // The goal and the count of steps, then the steps.
@@ -147,7 +141,7 @@ fn check_proof(counts: Counts, classes: &[Class], steps: &[u16]) -> Result<(), A
     at_line(goal, common::goal_at(counts.formulas, counts.policy))?;
     let count = rows::check_count(1, common::MOST_STEPS, counts.steps);
     at_line(count, common::steps_at(counts.formulas, counts.policy))?;
-    check_steps(counts.formulas, counts.policy, counts.steps, steps)
+    check_steps(counts, steps)
 }
 
 // The room, unit with version 1, and the version.

@@ -23,7 +23,7 @@ pub const SLOTS: usize = HEADS + 2 * (MOST_FORMULAS as usize);
 // No way from a head on has more rows than there are.
 const TURNS: usize = MOST_FORMULAS as usize + 1;
 
-// The number of the row that is equal; or the slot in which it would stand.
+// The number of the row that is equal; or the slot in which it would stand. Neither is a failure, so it is no Result.
 #[derive(Clone, Copy)]
 pub enum Place {
     Taken(u16),

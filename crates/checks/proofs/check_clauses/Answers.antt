@@ -13,7 +13,7 @@ use Rattle.checks.proofs.check_clauses.Goals as goal
 pub loop-i-init : goal.loop-i-init
 loop-i-init c =
     let a = c.args in
-    passed_none (lines_length a.classes.now a.formulas a.count a.policy.now)
+    passed_none (lines_length a.classes.now a.counts.formulas a.counts.policy a.policy.now)
 
 pub returns-in_err-at_line : goal.returns-in_err-at_line
 returns-in_err-at_line c =
@@ -21,11 +21,11 @@ returns-in_err-at_line c =
     let i = c.loop-i.i in
     let more = c.loop-i-test.true in
     let f = c.value_at-f in
-    let fits : refusal_in c.check_class-line.result ≡ class_refusal policy_in no_class a.classes.now a.formulas f.result =
-    class_asked policy_in no_class a.classes.now a.formulas f.result (rw c.from-in-loop-i.ensures at c.value_at-class.ensures) refl refl
+    let fits : refusal_in c.check_class-line.result ≡ class_refusal policy_in no_class a.classes.now a.counts.formulas f.result =
+    class_asked policy_in no_class a.classes.now a.counts.formulas f.result (rw c.from-in-loop-i.ensures at c.value_at-class.ensures) refl refl
     c.check_class-line.ensures in
-    let turn : Turn a.count (policy_answers a.classes.now a.formulas (unpack policy_entry a.count a.policy.now)) i c.at_line.result =
-    turn_of more c.loop-i.invariant (line_at a.classes.now a.formulas a.count a.policy.now i more)
+    let turn : Turn a.counts.policy (policy_answers a.classes.now a.counts.formulas (unpack policy_entry a.counts.policy a.policy.now)) i c.at_line.result =
+    turn_of more c.loop-i.invariant (line_at a.classes.now a.counts.formulas a.counts.policy a.policy.now i more)
     (rw c.from.ensures at (rw f.ensures at (rw (fits, c.clause_at.ensures) at c.at_line.ensures))) in
     let back : c.from_residual.result ≡ Err c.in_err-at_line.field-0.0 = grind arith in
     turn_out turn c.in_err-at_line.was back
@@ -36,11 +36,11 @@ loop-i-preserved c =
     let i = c.loop-i.i in
     let more = c.loop-i-test.true in
     let f = c.value_at-f in
-    let fits : refusal_in c.check_class-line.result ≡ class_refusal policy_in no_class a.classes.now a.formulas f.result =
-    class_asked policy_in no_class a.classes.now a.formulas f.result (rw c.from-in-loop-i.ensures at c.value_at-class.ensures) refl refl
+    let fits : refusal_in c.check_class-line.result ≡ class_refusal policy_in no_class a.classes.now a.counts.formulas f.result =
+    class_asked policy_in no_class a.classes.now a.counts.formulas f.result (rw c.from-in-loop-i.ensures at c.value_at-class.ensures) refl refl
     c.check_class-line.ensures in
-    let turn : Turn a.count (policy_answers a.classes.now a.formulas (unpack policy_entry a.count a.policy.now)) i c.at_line.result =
-    turn_of more c.loop-i.invariant (line_at a.classes.now a.formulas a.count a.policy.now i more)
+    let turn : Turn a.counts.policy (policy_answers a.classes.now a.counts.formulas (unpack policy_entry a.counts.policy a.policy.now)) i c.at_line.result =
+    turn_of more c.loop-i.invariant (line_at a.classes.now a.counts.formulas a.counts.policy a.policy.now i more)
     (rw c.from.ensures at (rw f.ensures at (rw (fits, c.clause_at.ensures) at c.at_line.ensures))) in
     turn_go turn c.in_ok-at_line.was
 

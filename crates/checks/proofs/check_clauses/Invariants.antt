@@ -5,4 +5,4 @@ use Rattle.checks.specs.Answers.{policy_answers}
 use Rattle.checks.proofs.check_clauses.Given as goal
 
 abbrev pub invariant-loop-i : goal.invariant-loop-i
-invariant-loop-i l = Passed l.count (policy_answers l.classes l.formulas (unpack policy_entry l.count l.policy)) l.i
+invariant-loop-i l = Passed l.counts.policy (policy_answers l.classes l.counts.formulas (unpack policy_entry l.counts.policy l.policy)) l.i

@@ -15,9 +15,9 @@ pub returns-in_err-at_line : goal.returns-in_err-at_line
 unfolding count_answers
 returns-in_err-at_line c =
     let a = c.args in
-    let principals = answer (principals_refusal a.principals) principals_at in
-    let atoms = answer (atoms_refusal a.atoms) atoms_at in
-    let formulas = answer (formulas_refusal a.formulas) formulas_at in
+    let principals = answer (principals_refusal a.counts.principals) principals_at in
+    let atoms = answer (atoms_refusal a.counts.atoms) atoms_at in
+    let formulas = answer (formulas_refusal a.counts.formulas) formulas_at in
     let first : c.at_line.result ≡ checked_of principals = rw (c.check_count-first.ensures, c.principals_at.ensures) at c.at_line.ensures in
     let back : c.from_residual.result ≡ Err c.in_err-at_line.field-0.0 = grind arith in
     one_out principals (atoms ∷ formulas ∷ []) first c.in_err-at_line.was back
@@ -26,9 +26,9 @@ pub returns-in_err-at_line-2 : goal.returns-in_err-at_line-2
 unfolding count_answers
 returns-in_err-at_line-2 c =
     let a = c.args in
-    let principals = answer (principals_refusal a.principals) principals_at in
-    let atoms = answer (atoms_refusal a.atoms) atoms_at in
-    let formulas = answer (formulas_refusal a.formulas) formulas_at in
+    let principals = answer (principals_refusal a.counts.principals) principals_at in
+    let atoms = answer (atoms_refusal a.counts.atoms) atoms_at in
+    let formulas = answer (formulas_refusal a.counts.formulas) formulas_at in
     let first : c.at_line.result ≡ checked_of principals = rw (c.check_count-first.ensures, c.principals_at.ensures) at c.at_line.ensures in
     let second : c.at_line-2.result ≡ checked_of atoms = rw (c.check_count-second.ensures, c.atoms_at.ensures) at c.at_line-2.ensures in
     let back : c.from_residual-in_err-at_line-2.result ≡ Err c.in_err-at_line-2.field-0.0 = grind arith in
@@ -39,9 +39,9 @@ pub returns : goal.returns
 unfolding count_answers
 returns c =
     let a = c.args in
-    let principals = answer (principals_refusal a.principals) principals_at in
-    let atoms = answer (atoms_refusal a.atoms) atoms_at in
-    let formulas = answer (formulas_refusal a.formulas) formulas_at in
+    let principals = answer (principals_refusal a.counts.principals) principals_at in
+    let atoms = answer (atoms_refusal a.counts.atoms) atoms_at in
+    let formulas = answer (formulas_refusal a.counts.formulas) formulas_at in
     let first : c.at_line.result ≡ checked_of principals = rw (c.check_count-first.ensures, c.principals_at.ensures) at c.at_line.ensures in
     let second : c.at_line-2.result ≡ checked_of atoms = rw (c.check_count-second.ensures, c.atoms_at.ensures) at c.at_line-2.ensures in
     let third : c.at_line-3.result ≡ checked_of formulas = rw (c.check_count-third.ensures, c.formulas_at.ensures) at c.at_line-3.ensures in

@@ -14,17 +14,17 @@ use Rattle.checks.proofs.check_forms.Goals as goal
 pub loop-i-init : goal.loop-i-init
 loop-i-init c =
     let a = c.args in
-    forms_none a.principals a.atoms a.count a.forms.now
+    forms_none a.counts.principals a.counts.atoms a.counts.formulas a.forms.now
 
 pub returns-in_err-check_form : goal.returns-in_err-check_form
 returns-in_err-check_form c =
     let a = c.args in
     let l = c.loop-i in
     let read : as_row c.row_at-row.result ≡ form_row a.forms.now l.i = ap as_row c.row_at-row.ensures ∙ row_here a.forms.now l.i in
-    let gave : c.check_form.result ≡ checked_of (answer (asked a.principals a.atoms a.forms.now l.slots l.i) (form_at l.i)) =
+    let gave : c.check_form.result ≡ checked_of (answer (asked a.counts.principals a.counts.atoms a.forms.now l.slots l.i) (form_at l.i)) =
     rw read at (rw c.enter_row-earlier.ensures.value at c.check_form.ensures) in
     let back : c.from_residual.result ≡ Err c.in_err-check_form.field-0.0 = grind arith in
-    turn_out (form_turn a.principals a.atoms a.count a.forms.now l.slots l.i l.invariant c.loop-i-test.true c.check_form.result gave)
+    turn_out (form_turn a.counts.principals a.counts.atoms a.counts.formulas a.forms.now l.slots l.i l.invariant c.loop-i-test.true c.check_form.result gave)
     c.in_err-check_form.was back
 
 pub loop-i-preserved : goal.loop-i-preserved
@@ -32,12 +32,12 @@ loop-i-preserved c =
     let a = c.args in
     let l = c.loop-i in
     let read : as_row c.row_at-row.result ≡ form_row a.forms.now l.i = ap as_row c.row_at-row.ensures ∙ row_here a.forms.now l.i in
-    let gave : c.check_form.result ≡ checked_of (answer (asked a.principals a.atoms a.forms.now l.slots l.i) (form_at l.i)) =
+    let gave : c.check_form.result ≡ checked_of (answer (asked a.counts.principals a.counts.atoms a.forms.now l.slots l.i) (form_at l.i)) =
     rw read at (rw c.enter_row-earlier.ensures.value at c.check_form.ensures) in
     let kept : c.enter_row-earlier.new.slots ≡ kept_at (place_in a.forms.now l.slots (form_row a.forms.now l.i)) l.i l.slots =
     rw read at c.enter_row-earlier.ensures.slots_after in
     rw kept
-    (forms_more a.principals a.atoms a.count a.forms.now l.slots l.i l.invariant c.loop-i-test.true c.check_form.result gave
+    (forms_more a.counts.principals a.counts.atoms a.counts.formulas a.forms.now l.slots l.i l.invariant c.loop-i-test.true c.check_form.result gave
     c.requires c.in_ok-check_form.was)
 
 pub returns : goal.returns

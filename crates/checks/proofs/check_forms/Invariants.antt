@@ -4,4 +4,4 @@ use Rattle.checks.specs.FormTurns.{FormsPassed}
 use Rattle.checks.proofs.check_forms.Given as goal
 
 abbrev pub invariant-loop-i : goal.invariant-loop-i
-invariant-loop-i l = FormsPassed l.principals l.atoms l.count l.forms l.slots l.i
+invariant-loop-i l = FormsPassed l.counts.principals l.counts.atoms l.counts.formulas l.forms l.slots l.i

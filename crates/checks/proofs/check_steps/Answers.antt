@@ -10,15 +10,15 @@ use Rattle.checks.proofs.check_steps.Goals as goal
 pub loop-i-init : goal.loop-i-init
 loop-i-init c =
     let a = c.args in
-    passed_none (steps_length a.formulas a.policy a.count a.steps.now)
+    passed_none (steps_length a.counts.formulas a.counts.policy a.counts.steps a.steps.now)
 
 pub returns-in_err-at_line : goal.returns-in_err-at_line
 returns-in_err-at_line c =
     let a = c.args in
     let i = c.loop-i.i in
     let more = c.loop-i-test.true in
-    let turn : Turn a.count (step_answers a.formulas a.policy (unpack step_entry a.count a.steps.now)) i c.at_line.result =
-    turn_of more c.loop-i.invariant (step_at_lem a.formulas a.policy a.count a.steps.now i more)
+    let turn : Turn a.counts.steps (step_answers a.counts.formulas a.counts.policy (unpack step_entry a.counts.steps a.steps.now)) i c.at_line.result =
+    turn_of more c.loop-i.invariant (step_at_lem a.counts.formulas a.counts.policy a.counts.steps a.steps.now i more)
     (rw c.from-at.ensures at
     (rw (c.value_at.ensures, c.value_at-in-loop-i.ensures) at
     (rw (c.from-kind.ensures, c.from-carried.ensures) at (rw (c.check_step-step.ensures, c.step_at.ensures) at c.at_line.ensures)))) in
@@ -30,8 +30,8 @@ loop-i-preserved c =
     let a = c.args in
     let i = c.loop-i.i in
     let more = c.loop-i-test.true in
-    let turn : Turn a.count (step_answers a.formulas a.policy (unpack step_entry a.count a.steps.now)) i c.at_line.result =
-    turn_of more c.loop-i.invariant (step_at_lem a.formulas a.policy a.count a.steps.now i more)
+    let turn : Turn a.counts.steps (step_answers a.counts.formulas a.counts.policy (unpack step_entry a.counts.steps a.steps.now)) i c.at_line.result =
+    turn_of more c.loop-i.invariant (step_at_lem a.counts.formulas a.counts.policy a.counts.steps a.steps.now i more)
     (rw c.from-at.ensures at
     (rw (c.value_at.ensures, c.value_at-in-loop-i.ensures) at
     (rw (c.from-kind.ensures, c.from-carried.ensures) at (rw (c.check_step-step.ensures, c.step_at.ensures) at c.at_line.ensures)))) in

@@ -5,4 +5,4 @@ use Rattle.checks.specs.Answers.{step_answers}
 use Rattle.checks.proofs.check_steps.Given as goal
 
 abbrev pub invariant-loop-i : goal.invariant-loop-i
-invariant-loop-i l = Passed l.count (step_answers l.formulas l.policy (unpack step_entry l.count l.steps)) l.i
+invariant-loop-i l = Passed l.counts.steps (step_answers l.counts.formulas l.counts.policy (unpack step_entry l.counts.steps l.steps)) l.i
