@@ -17,9 +17,9 @@ use Rattle.common.specs.declared.refused.Answer.{Answer as Returned}
 use Rattle.common.specs.declared.refused.Refusal.{Refusal}
 use Rattle.steps.specs.declared.Pair.{Pair}
 use Rattle.reader.specs.Sections.{Told, Counted, Formulas, PolicyRead}
-use Rattle.reader.specs.declared.version_lines.Start.{Start}
-use Rattle.reader.specs.declared.first_lines.Head.{Head}
-use Rattle.reader.specs.declared.policy_lines.Policy.{Policy}
+use Rattle.reader.specs.declared.parts.Start.{Start}
+use Rattle.reader.specs.declared.parts.Head.{Head}
+use Rattle.reader.specs.declared.parts.Policy.{Policy}
 
 -- What the reader answers: version and logic, the counts and the goal, or the refusal and its place.
 abbrev pub counts_of : Request → Counts
@@ -111,29 +111,29 @@ abbrev pub ReadsMany : {A : Type 0} → Entry A → ℕ → Read (List A) → Re
 ReadsMany e n r a numbers = MatchResult a (λ p. ManyKept e n r p.now numbers) (λ z. r ≡ bad (answer_is z))
 
 -- Of a part with a lent table.
-pub record PartKept {A C : Type 0} (told : A → C) (put : A → ℕ → List ℕ) (r : Read A) (c : C) (rest numbers : List ℕ) : Type 0 where
+pub record PartKept {A C : Type 0} (told : C → A → Type 0) (put : A → ℕ → List ℕ) (r : Read A) (c : C) (rest numbers : List ℕ) : Type 0 where
   pub thing : A
   pub is : r ≡ ok thing rest
-  pub seen : c ≡ told thing
+  pub seen : told c thing
   pub stored : numbers ≡ put thing (length numbers)
 
-abbrev pub ReadsPart : {A C : Type 0} → (A → C) → (A → ℕ → List ℕ) → Read A → Result (C × Bor (List ℕ)) Returned → List ℕ → Type 0
+abbrev pub ReadsPart : {A C : Type 0} → (C → A → Type 0) → (A → ℕ → List ℕ) → Read A → Result (C × Bor (List ℕ)) Returned → List ℕ → Type 0
 ReadsPart told put r a numbers = MatchResult a (λ p. PartKept told put r p.0 p.1.now numbers) (λ z. r ≡ bad (answer_is z))
 
-abbrev pub formulas_of : Formulas → Head
-formulas_of f = record { principals = f.principals; atoms = f.atoms; formulas = length f.forms }
+abbrev pub formulas_of : Head → Formulas → Type 0
+formulas_of h f = ◌≡◌ {A = Counted} (head_of h) (record { principals = f.principals; atoms = f.atoms; formulas = length f.forms })
 
 abbrev pub forms_of : Formulas → ℕ → List ℕ
 forms_of f len = table form_entry len f.forms
 
-abbrev pub policy_of : PolicyRead → Policy
-policy_of p = record { clauses = length p.policy; goal = p.goal }
+abbrev pub policy_of : Policy → PolicyRead → Type 0
+policy_of c p = ◌≡◌ {A = Policy} c (record { clauses = length p.policy; goal = p.goal })
 
 abbrev pub lines_of : PolicyRead → ℕ → List ℕ
 lines_of p len = table policy_entry len p.policy
 
-abbrev pub count_of : List Row → ℕ
-count_of rows = length rows
+abbrev pub count_of : ℕ → List Row → Type 0
+count_of n rows = n ≡ length rows
 
 abbrev pub rows_of : List Row → ℕ → List ℕ
 rows_of rows len = table step_entry len rows

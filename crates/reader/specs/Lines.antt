@@ -242,10 +242,9 @@ column_else refusal.OutputTooShort n h = refl
 column_else refusal.Repeated n h = refl
 column_else refusal.UnitInVersion1 n h = refl
 
--- The answer about a refused line, by the stop that the code found.
-pub told_read : {A : Type 0} (k place stop n : ℕ) (x : Returned) → x ≡ answer_of (told k place (column_for k (suc stop))) → stop ≡ n
-    → ◌≡◌ {A = Read A} (bad (told k place (column_for k (suc n)))) (bad (answer_is x))
-told_read k place stop n x e s = rw (e, s) refl
+-- The answer about a refused line.
+pub told_read : {A : Type 0} (k place column : ℕ) (x : Returned) → x ≡ answer_of (told k place column) → ◌≡◌ {A = Read A} (bad (told k place column)) (bad (answer_is x))
+told_read k place column x e = rw e refl
 
 none_word : (v : List ℕ) → kind_from 0 logic_kinds v ≡ none → logic_word v ≡ none
 unfolding logic_word logic_in

@@ -14,14 +14,14 @@ use Rattle.scope.specs.Limits.{most_bytes, most_formulas, most_policy_lines, mos
 use Rattle.scope.specs.File.Reader.{Outcome, read_request}
 use Rattle.scope.specs.Call.Tables.{form_entry, policy_entry, step_entry, table, unpack, has_room}
 use Rattle.scope.specs.Call.Calls.{reading, request_in, form_table_after, policy_table_after, step_table_after}
-use Rattle.reader.specs.Sections.{Formulas, PolicyRead, formulas_part, policy_part, steps_part}
+use Rattle.reader.specs.Sections.{Counted, Formulas, PolicyRead, formulas_part, policy_part, steps_part}
 use Rattle.common.specs.Answers.{answer_of}
 use Rattle.common.specs.declared.Counts.{Counts}
 use Rattle.common.specs.declared.refused.Answer.{Answer as Returned}
 use Rattle.reader.specs.Answers.{counts_of, reading_of, PartKept, formulas_of, forms_of, policy_of, lines_of, count_of, rows_of, Zero, Kept}
 use Rattle.reader.specs.Stored.{table_none, unpack_table}
-use Rattle.reader.specs.declared.first_lines.Head.{Head}
-use Rattle.reader.specs.declared.policy_lines.Policy.{Policy}
+use Rattle.reader.specs.declared.parts.Head.{Head}
+use Rattle.reader.specs.declared.parts.Policy.{Policy}
 use Rattle.reader.specs.Whole.{request_with, body_ended, body_request, sections, body_sections}
 
 module _ (t : List ℕ) where
@@ -78,7 +78,7 @@ module _ (t : List ℕ) where
 -- The same of a file whose parts the code has read.
 module _ (t : List ℕ) (head : Head) (s forms : List ℕ) (f : PartKept formulas_of forms_of (formulas_part t) head s forms) where
   many_forms : head.formulas ≡ length f.thing.forms
-  many_forms = ap (λ (h : Head). h.formulas) f.seen
+  many_forms = ap (λ (h : Counted). h.formulas) f.seen
 
   rows_are : unpack form_entry head.formulas forms ≡ f.thing.forms
   rows_are = ap (unpack form_entry head.formulas) f.stored ∙ unpack_table (length forms) f.thing.forms head.formulas many_forms

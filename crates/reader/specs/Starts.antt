@@ -17,7 +17,7 @@ use Rattle.trip.proofs.Places.{body_from}
 use Rattle.reader.specs.Sections.{Told, start_part}
 use Rattle.common.specs.declared.Counts.{Counts}
 use Rattle.reader.specs.Answers.{start_of, Kept}
-use Rattle.reader.specs.declared.version_lines.Start.{Start}
+use Rattle.reader.specs.declared.parts.Start.{Start}
 use Rattle.reader.specs.Many.{tail_length}
 use Rattle.reader.specs.Whole.{body_ended, body_request, headed, headed_outcome, start_read, start_ends}
 

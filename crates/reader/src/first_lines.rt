@@ -1,5 +1,5 @@
 // Lines with a number, and the three from `principals=` on: principals, atoms, formulas.
-ghost use Rattle.std.specs.Prelude.{◌≡◌, suc, ◌≤◌, length, Result, IfOk};
+ghost use Rattle.std.specs.Prelude.{◌≡◌, suc, ◌≤◌, length, Result};
 ghost use Rattle.scope.specs.Limits.{most_formulas};
 ghost use Rattle.scope.specs.File.Number.{number};
 ghost use Rattle.scope.specs.File.Line.{shaped_as, placed, line_stop, line};
@@ -9,16 +9,8 @@ ghost use Rattle.lines.specs.Parts.{rest_of};
 ghost use Rattle.reader.specs.Answers.{said, same, Reads, head_of};
 ghost use Rattle.reader.specs.Sections.{head_part};
 
-use crate::Parsed;
+use crate::parts::{Head, Parsed};
 use common::Refusal;
-
-// How many principals, atoms and formulas there are.
-#[derive(Clone, Copy)]
-pub(crate) struct Head {
-    pub(crate) principals: u16,
-    pub(crate) atoms: u16,
-    pub(crate) formulas: u16,
-}
 
 // A count between `least` and `most` in the value of a line.
 fn count_in(value: &[u8], least: u16, most: u16) -> Result<u16, Refusal>
@@ -45,7 +37,9 @@ pub(crate) fn number_line<'a>(
 {
     match got {
         Ok(n) => Ok((n, lines::rest_of(text))),
-        Err(refusal) => Err(crate::refused(refusal, place, columns::number_line(text, key))),
+        Err(refusal) => Err(crate::refused(refusal, place, text, |line| {
+            columns::number_line(line, key)
+        })),
     }
 }
 
@@ -64,8 +58,7 @@ pub(crate) fn count_line<'a>(
 }
 
 pub(crate) fn read_head(text: &[u8]) -> Parsed<'_, Head>
-    ensures value { Reads head_of (head_part text.now) result }
-    ensures few_formulas { IfOk result (λ p. p.0.formulas ≤ most_formulas) }
+    ensures { Reads head_of (head_part text.now) result }
 {
     let most = common::MOST_PRINCIPALS;
     let (principals, rest) = count_line(text, b"principals=", 1, most, common::principals_at())?;

@@ -12,8 +12,7 @@ ghost use Rattle.reader.specs.Answers.{said, Reads, Zero, ReadsMany, ReadsPart, 
 ghost use Rattle.reader.specs.NewRows.{asked_row, slots_with};
 ghost use Rattle.reader.specs.Sections.{formulas_part};
 
-use crate::Parsed;
-use crate::first_lines::Head;
+use crate::parts::{Head, Parsed};
 use common::{Answer, Refusal, Row};
 use lines::Items;
 use numbering::SLOTS;
@@ -66,15 +65,14 @@ fn form_line<'a>(
     match new_row(value, head, formula, forms, slots) {
         Ok(row) => Ok((row, &text[value.len() + 6..])),
         Err(refusal) => {
-            let stop = columns::form_line(text);
-            Err(crate::refused(refusal, common::form_at(formula), stop))
+            let place = common::form_at(formula);
+            Err(crate::refused(refusal, place, text, columns::form_line))
         }
     }
 }
 
 fn read_forms<'a>(text: &'a [u8], head: Head, forms: &mut [u16]) -> Result<&'a [u8], Answer>
-    requires few { head.formulas ≤ most_formulas }
-    requires zero { Zero (3 * most_formulas) forms.old }
+    requires { Zero (3 * most_formulas) forms.old }
     ensures { ReadsMany form_entry head.formulas (many (form_item head.principals head.atoms) head.formulas [] text.now) result forms.new }
 {
     let mut slots = [0u16; SLOTS];
@@ -89,8 +87,7 @@ fn read_forms<'a>(text: &'a [u8], head: Head, forms: &mut [u16]) -> Result<&'a [
 
 pub(crate) fn read_formulas<'a>(text: &'a [u8], forms: &mut [u16]) -> Parsed<'a, Head>
     requires { Zero (3 * most_formulas) forms.old }
-    ensures value { ReadsPart formulas_of forms_of (formulas_part text.now) result forms.new }
-    ensures few_formulas { IfOk result (λ p. p.0.formulas ≤ most_formulas) }
+    ensures { ReadsPart formulas_of forms_of (formulas_part text.now) result forms.new }
 {
     let (head, rest) = crate::first_lines::read_head(text)?;
     let rest = read_forms(rest, head, forms)?;

@@ -1,7 +1,8 @@
 // Reads a request file into lent tables of 16-bit numbers: 3 a formula, 1 a policy line, 2 a step.
 #![tactic(auto)]
 
-ghost use Rattle.std.specs.Prelude.{◌≡◌, suc, ◌*◌, ◌≤◌, ◌<◌, length, replicate, Result};
+ghost use Rattle.std.specs.Prelude.{◌≡◌, ℕ, suc, ◌*◌, ◌≤◌, ◌<◌, length, replicate, Result};
+ghost use Rattle.std.specs.Fn.{FnOnceReturnsAt};
 ghost use Rattle.scope.specs.Limits.{most_bytes, most_formulas, most_policy_lines, most_steps};
 ghost use Rattle.scope.specs.File.Reader.{read_request};
 ghost use Rattle.scope.specs.Call.Answer.{told, column_for};
@@ -12,36 +13,29 @@ ghost use Rattle.reader.specs.Answers.{reading_of, Zero, Answers};
 ghost use Rattle.reader.specs.Whole.{body_request};
 
 use common::{Answer, Counts, Refusal};
-use version_lines::Start;
+use parts::Start;
 
 mod first_lines;
 mod form_lines;
+mod parts;
 mod policy_lines;
 mod step_lines;
 mod version_lines;
 
-// What a line or more gave, and the text behind it; or the answer about the first line that is refused.
-type Parsed<'a, T> = Result<(T, &'a [u8]), Answer>;
-
-// The answer about a refused line: the column of one that is out of shape is the next after the bytes that can stand, of any other 0.
-fn refused(refusal: Refusal, place: u32, stop: usize) -> Answer
-    requires { stop < 65535 }
-    ensures { result ≡ answer_of (told (number_of refusal) place (column_for (number_of refusal) (suc stop))) }
-{
-    Answer {
-        refusal: refusal.number(),
-        place,
-        column: column_of(refusal, stop),
-    }
-}
-
-fn column_of(refusal: Refusal, stop: usize) -> u16
-    requires { stop < 65535 }
-    ensures { result ≡ column_for (number_of refusal) (suc stop) }
+// The answer about the line at the front of a text, which is refused: the column of one that is out of shape is the next after the bytes
+// that can stand, of any other 0.
+fn refused<F: FnOnce(&[u8]) -> usize>(refusal: Refusal, place: u32, text: &[u8], stop: F) -> Answer
+    requires callable { F.IsAlwaysCallable stop }
+    requires small { (n : ℕ) → FnOnceReturnsAt F.FnOnce stop text.now n → n < 65535 }
+    ensures { (n : ℕ) → ((m : ℕ) → FnOnceReturnsAt F.FnOnce stop text.now m → m ≡ n) → result ≡ answer_of (told (number_of refusal) place (column_for (number_of refusal) (suc n))) }
 {
     match refusal {
-        Refusal::Shape => stop as u16 + 1,
-        _ => 0,
+        Refusal::Shape => Answer {
+            refusal: refusal.number(),
+            place,
+            column: stop(text) as u16 + 1,
+        },
+        _ => Answer::at(refusal, place),
     }
 }
 
@@ -58,7 +52,7 @@ fn read_body(
     ensures { Answers (body_request text.now) result forms.new policy.new steps.new }
 {
     let (head, rest) = form_lines::read_formulas(text, forms)?;
-    let (lines, rest) = policy_lines::read_policy(rest, head.formulas, forms, policy)?;
+    let (lines, rest) = policy_lines::read_policy(rest, head, forms, policy)?;
     let (count, rest) = step_lines::read_proof(rest, head.formulas, lines.clauses, steps)?;
     if !rest.is_empty() {
         let place = common::end_at(head.formulas, lines.clauses, count);

@@ -10,7 +10,7 @@ ghost use Rattle.scope.specs.Call.Tables.{step_entry};
 ghost use Rattle.reader.specs.Answers.{said, step_row, Reads, Zero, ReadsMany, ReadsPart, count_of, rows_of};
 ghost use Rattle.reader.specs.Sections.{steps_part};
 
-use crate::Parsed;
+use crate::parts::Parsed;
 use common::{Answer, Refusal};
 use lines::Items;
 use steps::Pair;
@@ -36,7 +36,7 @@ fn step_line(text: &[u8], place: u32) -> Parsed<'_, Pair>
     let value = lines::value_of(text, b"step=");
     match step_in(value) {
         Ok(step) => Ok((step, &text[value.len() + 6..])),
-        Err(refusal) => Err(crate::refused(refusal, place, columns::step_line(text))),
+        Err(refusal) => Err(crate::refused(refusal, place, text, columns::step_line)),
     }
 }
 

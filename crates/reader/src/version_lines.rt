@@ -7,23 +7,16 @@ ghost use Rattle.scope.specs.Limits.{logic_at};
 ghost use Rattle.reader.specs.Answers.{Gives, start_of};
 ghost use Rattle.reader.specs.Sections.{start_part};
 
-use crate::Parsed;
 use crate::first_lines::count_line;
+use crate::parts::{Parsed, Start};
 use common::Refusal;
-
-// What the first lines tell: the logic is 0 where they tell none.
-#[derive(Clone, Copy)]
-pub(crate) struct Start {
-    pub(crate) version: u16,
-    pub(crate) logic: u16,
-}
 
 fn logic_line(text: &[u8]) -> Parsed<'_, u16>
     ensures { Gives logic_number (line logic_line (λ l. 0) logic_at text.now) result }
 {
     let Some(number) = lines::logic_number(lines::value_of(text, b"logic=")) else {
-        let stop = columns::logic_line(text);
-        return Err(crate::refused(Refusal::Shape, common::logic_at(), stop));
+        let place = common::logic_at();
+        return Err(crate::refused(Refusal::Shape, place, text, columns::logic_line));
     };
     Ok((number, lines::rest_of(text)))
 }

@@ -1,4 +1,5 @@
-use Rattle.std.proofs.Common.{arith, ◌∙◌}
+use Rattle.std.proofs.Common.{arith, ap, ◌∙◌}
+use Rattle.scope.specs.File.Line.{line_stop}
 use Rattle.scope.specs.File.Text.{form_line}
 use Rattle.columns.specs.Small.{form_line_small}
 use Rattle.common.specs.Rows.{as_row}
@@ -11,8 +12,8 @@ slice_bounds-result-count c = (line_behind form_line _ 0 c.args.text.now c.value
 pub slice_bounds-result-start : goal.slice_bounds-result-start
 slice_bounds-result-start c = (line_behind form_line _ 0 c.args.text.now c.value_of-value.result.now c.value_of-value.ensures no_form _ c.in-Ok.ensures.value).inside
 
-pub refused-requires : goal.refused-requires
-refused-requires c = omega (arith, c.form_line-stop.ensures, form_line_small c.args.text.now)
+pub refused-requires-clause-small : goal.refused-requires-clause-small
+refused-requires-clause-small c n p = omega (arith, p.1, form_line_small p.0.now)
 
 pub returns-in-Ok-clause-value : goal.returns-in-Ok-clause-value
 returns-in-Ok-clause-value c =
@@ -22,4 +23,4 @@ returns-in-Ok-clause-value c =
 pub returns-in-Err-clause-value : goal.returns-in-Err-clause-value
 returns-in-Err-clause-value c =
     line_refused form_line _ _ c.args.text.now c.value_of-value.result.now c.value_of-value.ensures no_form _ c.in-Err.ensures.value ∙
-    told_read _ _ _ _ _ (rw c.form_at.ensures at c.refused.ensures) c.form_line-stop.ensures
+    told_read _ _ _ _ (rw c.form_at-place.ensures at (c.refused.ensures _ (λ m p. p.1 ∙ ap (line_stop form_line) p.2)))

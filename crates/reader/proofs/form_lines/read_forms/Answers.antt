@@ -10,7 +10,7 @@ use Rattle.reader.proofs.form_lines.read_forms.Goals as goal
 pub loop-i-init : goal.loop-i-init
 loop-i-init c =
     let h = c.args.head in
-    forms_begin (3 * most_formulas) h.principals h.atoms h.formulas c.args.text.now c.args.forms.now c.requires.zero
+    forms_begin (3 * most_formulas) h.principals h.atoms h.formulas c.args.text.now c.args.forms.now c.requires
 
 pub returns-in_err-row : goal.returns-in_err-row
 returns-in_err-row c =
@@ -21,7 +21,7 @@ pub loop-i-preserved : goal.loop-i-preserved
 loop-i-preserved c =
     rw c.put_row.ensures
     (form_turn c.loop-i.invariant c.loop-i-test.true c.in_ok-row.row c.in_ok-row.behind.now c.in_ok-row.ensures.value
-    (omega (arith, c.requires.few)) (omega (arith, c.requires.zero.room)) _ c.in_ok-row.ensures.slots_after)
+    (omega (arith, c.args.head.few)) (omega (arith, c.requires.room)) _ c.in_ok-row.ensures.slots_after)
 
 pub returns : goal.returns
 returns c =

@@ -1,4 +1,4 @@
-use Rattle.std.proofs.Common.{sym, subst}
+use Rattle.std.proofs.Common.{sym, subst, rules}
 use Rattle.scope.specs.File.Text.{clause_line}
 use Rattle.scope.specs.Limits.{clause_at}
 use Rattle.classes.specs.Class.{policy_in, no_class}
@@ -10,6 +10,6 @@ use Rattle.reader.proofs.policy_lines.clause_line.Goals as goal
 pub returns : goal.returns
 returns c =
     subst (λ r. Reads same r c.number_line.result)
-    (sym (line_said clause_line (class_refusal policy_in no_class c.args.classes.now c.args.formulas) _ c.args.text.now c.value_of.result.now
-    c.value_of.ensures no_number _ c.clause_in-got.ensures))
+    (sym (line_said clause_line (class_refusal policy_in no_class c.args.classes.now c.args.formulas) _ c.args.text.now c.value_of-value.result.now
+    c.value_of-value.ensures no_number _ (c.classed_in-got.ensures policy_in (λ x b p. search rules))))
     (rw c.clause_at.ensures at c.number_line.ensures)

@@ -1,4 +1,4 @@
-use Rattle.std.proofs.Common.{sym, subst}
+use Rattle.std.proofs.Common.{sym, subst, rules}
 use Rattle.scope.specs.File.Text.{goal_line}
 use Rattle.scope.specs.Limits.{goal_at}
 use Rattle.classes.specs.Class.{goal_in, no_class}
@@ -10,6 +10,6 @@ use Rattle.reader.proofs.policy_lines.goal_line.Goals as goal
 pub returns : goal.returns
 returns c =
     subst (λ r. Reads same r c.number_line.result)
-    (sym (line_said goal_line (class_refusal goal_in no_class c.args.classes.now c.args.formulas) _ c.args.text.now c.value_of.result.now
-    c.value_of.ensures no_number _ c.goal_in-got.ensures))
+    (sym (line_said goal_line (class_refusal goal_in no_class c.args.classes.now c.args.formulas) _ c.args.text.now c.value_of-value.result.now
+    c.value_of-value.ensures no_number _ (c.classed_in-got.ensures goal_in (λ x b p. search rules))))
     (rw c.goal_at.ensures at c.number_line.ensures)

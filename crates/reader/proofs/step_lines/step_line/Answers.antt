@@ -1,5 +1,6 @@
-use Rattle.std.proofs.Common.{arith, ◌∙◌}
+use Rattle.std.proofs.Common.{arith, ap, ◌∙◌}
 use Rattle.scope.specs.File.Refusals.{step_refusal}
+use Rattle.scope.specs.File.Line.{line_stop}
 use Rattle.scope.specs.File.Text.{step_line}
 use Rattle.columns.specs.Small.{step_line_small}
 use Rattle.reader.specs.Answers.{step_row}
@@ -12,8 +13,8 @@ slice_bounds-result-count c = (line_behind step_line step_refusal 0 c.args.text.
 pub slice_bounds-result-start : goal.slice_bounds-result-start
 slice_bounds-result-start c = (line_behind step_line step_refusal 0 c.args.text.now c.value_of-value.result.now c.value_of-value.ensures no_step _ c.in-Ok.ensures).inside
 
-pub refused-requires : goal.refused-requires
-refused-requires c = omega (arith, c.step_line.ensures, step_line_small c.args.text.now)
+pub refused-requires-clause-small : goal.refused-requires-clause-small
+refused-requires-clause-small c n p = omega (arith, p.1, step_line_small p.0.now)
 
 pub returns-in-Ok : goal.returns-in-Ok
 returns-in-Ok c =
@@ -23,4 +24,4 @@ returns-in-Ok c =
 pub returns-in-Err : goal.returns-in-Err
 returns-in-Err c =
     line_refused step_line step_refusal c.args.place c.args.text.now c.value_of-value.result.now c.value_of-value.ensures no_step _ c.in-Err.ensures ∙
-    told_read _ _ _ _ _ c.refused.ensures c.step_line.ensures
+    told_read _ _ _ _ (c.refused.ensures _ (λ m p. p.1 ∙ ap (line_stop step_line) p.2))
