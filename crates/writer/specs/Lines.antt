@@ -1,6 +1,8 @@
 -- The text of one line, in the parts in which it is put.
-use Rattle.std.specs.Prelude.{ℕ, zero, suc, ◌/◌, ◌%◌, ◌≤◌, ◌<◌, ◌≡◌, refl, List, [], ◌∷◌, ◌++◌, map, length, take, get_or, set, replicate}
-use Rattle.std.proofs.Common.{arith, ap, sym, ◌∙◌, append_assoc, append-nil, lt-ltb, le-ltb, get_or-set_other}
+use Rattle.std.specs.Prelude.{ℕ, zero, suc, ◌/◌, ◌%◌, ◌≤◌, ◌<◌, ◌≡◌, refl, ◌⊎◌, List, [], ◌∷◌, ◌++◌, map, Bool, true, false, cond, leb, length, take, get_or}
+use Rattle.std.proofs.lemmas.Bool.{cases_lt, leb-true, lt-leb, le-leb}
+use Rattle.std.proofs.lemmas.List.{get_or-map, length-map}
+use Rattle.std.proofs.Common.{inl, inr, arith, ap, sym, ◌∙◌, append_assoc, append-nil, lt-ltb, le-ltb}
 use Rattle.std.proofs.Math.ListN.{get_or-eq_default}
 use Rattle.std.proofs.Math.Seq.{take-nil}
 use Rattle.scope.specs.File.Bytes.{bytes}
@@ -9,7 +11,8 @@ use Rattle.scope.specs.File.Number.{digit, numeral}
 use Rattle.scope.specs.File.Line.{Line, line_text}
 use Rattle.scope.specs.File.Kinds.{Kind, kind, kind_in, spaced, row_text, row_shape, form_kinds, step_kinds, logic_of, logic_text}
 use Rattle.scope.specs.File.Text.{number_shape, logic_line}
-use Rattle.writer.specs.Puts.{Puts, puts_none, puts_same}
+use Rattle.common.specs.declared.kinds.Kind.{Kind as Listed}
+use Rattle.common.specs.Kinds.{sort_of, kind_of, listed}
 
 -- A number's digits, where there are 1 to 5 of them: each place's digit stands in its own byte.
 unfoldable pub digits1 : ℕ → List ℕ
@@ -47,6 +50,63 @@ pub five_digits : (n : ℕ) → 10000 ≤ n → digits5 n ≡ numeral n
 unfolding numeral digits1 digits2 digits3 digits4 digits5
 five_digits n k = rw (le-ltb n 10 (omega arith), le-ltb n 100 (omega arith), le-ltb n 1000 (omega arith), le-ltb n 10000 k) refl
 
+-- The digit at a place, where the number reaches so far, and those at several.
+unfoldable pub digit_at : ℕ → ℕ → List ℕ
+digit_at place n = cond (leb place n) (digits1 (n / place % 10)) []
+
+unfoldable pub digits_at : List ℕ → ℕ → List ℕ
+digits_at [] n = []
+digits_at (place ∷ places) n = digit_at place n ++ digits_at places n
+
+pub digits_more : (places : List ℕ) (k n : ℕ) → k < length places →
+    digits_at (take k places) n ++ digit_at (get_or places k 0) n ≡ digits_at (take (suc k) places) n
+unfolding digits_at
+digits_more [] k n h = absurd (omega arith)
+digits_more (p ∷ ps) zero n h = sym (append-nil (digit_at p n))
+digits_more (p ∷ ps) (suc k) n h =
+    append_assoc (digit_at p n) (digits_at (take k ps) n) (digit_at (get_or ps k 0) n) ∙
+    ap (λ (l : List ℕ). digit_at p n ++ l) (digits_more ps k n (omega arith))
+
+abbrev pub places : List ℕ
+places = 10000 ∷ 1000 ∷ 100 ∷ 10 ∷ []
+
+-- All digits of a number: those at the places that it reaches, and the last.
+pub all_digits : (n : ℕ) → n < 100000 → digits_at places n ++ digits1 (n % 10) ≡ numeral n
+unfolding digits_at digit_at digits1 digits2 digits3 digits4 digits5
+all_digits n h = go (cases_lt n 10) (cases_lt n 100) (cases_lt n 1000) (cases_lt n 10000)
+  where
+    short : (place : ℕ) → n < place → leb place n ≡ false
+    short place k = lt-leb place n k
+
+    long : (place : ℕ) → place ≤ n → leb place n ≡ true
+    long place k = le-leb place n k
+
+    two : n < 1000 → n / 100 % 10 ≡ n / 10 / 10
+    two k = omega arith
+
+    hundreds : n / 100 % 10 ≡ n / 10 / 10 % 10
+    hundreds = omega arith
+
+    thousands : n / 1000 % 10 ≡ n / 10 / 10 / 10 % 10
+    thousands = omega arith
+
+    go : (n < 10) ⊎ (10 ≤ n) → (n < 100) ⊎ (100 ≤ n) → (n < 1000) ⊎ (1000 ≤ n) → (n < 10000) ⊎ (10000 ≤ n) →
+        digits_at places n ++ digits1 (n % 10) ≡ numeral n
+    go (inl a) b c d =
+        let last : n % 10 ≡ n = omega arith in
+        rw (short 10000 (omega arith), short 1000 (omega arith), short 100 (omega arith), short 10 a, last) (one_digit n a)
+    go (inr a) (inl b) c d =
+        let tens : n / 10 % 10 ≡ n / 10 = omega arith in
+        rw (short 10000 (omega arith), short 1000 (omega arith), short 100 b, long 10 a, tens) (two_digits n a b)
+    go (inr a) (inr b) (inl c) d =
+        rw (short 10000 (omega arith), short 1000 c, long 100 b, long 10 a, two c) (three_digits n b c)
+    go (inr a) (inr b) (inr c) (inl d) =
+        let first : n / 1000 % 10 ≡ n / 10 / 10 / 10 = omega arith in
+        rw (short 10000 d, long 1000 c, long 100 b, long 10 a, first, hundreds) (four_digits n c d)
+    go (inr a) (inr b) (inr c) (inr d) =
+        let first : n / 10000 % 10 ≡ n / 10 / 10 / 10 / 10 = omega arith in
+        rw (long 10000 d, long 1000 c, long 100 b, long 10 a, first, thousands, hundreds) (five_digits n d)
+
 -- An operand stands behind a space.
 unfoldable pub operand_text : ℕ → List ℕ
 operand_text n = (32 ∷ []) ++ numeral n
@@ -83,14 +143,58 @@ pub number_line_lem : (key : List ℕ) (n : ℕ) → (key ++ numeral n) ++ (10 �
 unfolding line_text
 number_line_lem key n = refl
 
-pub row_line : (key : List ℕ) (ks : List Kind) (r : Row) →
-    ((key ++ (kind_in ks r.kind).word) ++ operands_text (length (kind_in ks r.kind).operands) r.left r.right) ++ (10 ∷ []) ≡
-    line_text record { key = key; shape = row_shape ks } r
+-- A line whose value is a row of these kinds.
+abbrev pub kinds_line : List ℕ → List Kind → Line Row
+kinds_line key ks = record { key = key; shape = row_shape ks }
+
+-- The same of such a line.
+pub row_line : (key : List ℕ) (ks : List Kind) (r : Row) → (key ++ row_text ks r) ++ (10 ∷ []) ≡ line_text (kinds_line key ks) r
 unfolding line_text
-row_line key ks r =
-    let word = (kind_in ks r.kind).word in
-    let rest = operands_text (length (kind_in ks r.kind).operands) r.left r.right in
-    ap (λ (l : List ℕ). l ++ (10 ∷ [])) (append_assoc key word rest ∙ ap (λ (v : List ℕ). key ++ v) (sym (row_text_lem ks r)))
+row_line key ks r = refl
+
+-- No word of these kinds has more than 16 bytes.
+unfoldable pub are_short : List Kind → Bool
+are_short [] = true
+are_short (c ∷ ks) = cond (leb (length c.word) 16) (are_short ks) false
+
+pub forms_short : are_short form_kinds ≡ true
+unfolding are_short form_kinds
+forms_short = refl
+
+pub steps_short : are_short step_kinds ≡ true
+unfolding are_short step_kinds
+steps_short = refl
+
+short_parts : (b c : Bool) → cond b c false ≡ true → (b ≡ true) × (c ≡ true)
+short_parts true c h = (refl, h)
+short_parts false c h = cc
+
+pub word_short : (ks : List Kind) (k : ℕ) → are_short ks ≡ true → length (kind_in ks k).word ≤ 16
+unfolding are_short kind_in
+word_short [] k h = omega arith
+word_short (c ∷ ks) zero h = leb-true (length c.word) 16 (short_parts (leb (length c.word) 16) (are_short ks) h).0
+word_short (c ∷ ks) (suc k) h = word_short ks k (short_parts (leb (length c.word) 16) (are_short ks) h).1
+
+-- The kind of a number in a table of the code, and what is written of a row of that kind: nothing where there is none.
+pub kind_found : (ks : List Listed) (i : ℕ) (k : Listed) → i < length ks → k ≡ get_or ks i k → kind_in (listed ks) i ≡ kind_of k
+unfolding kind_in
+kind_found ks i k h e = get_or-map kind_of ks i k (kind "" []) h ∙ ap kind_of (sym e)
+
+abbrev kind_text : Kind → Row → List ℕ
+kind_text c r = c.word ++ operands_text (length c.operands) r.left r.right
+
+pub found_text : (ks : List Listed) (r : Row) (k : Listed) → r.kind < length ks → k ≡ get_or ks r.kind k →
+    k.word.now ++ operands_text (length k.operands.now) r.left r.right ≡ row_text (listed ks) r
+found_text ks r k h e =
+    ap (λ (n : ℕ). k.word.now ++ operands_text n r.left r.right) (sym (length-map k.operands.now sort_of)) ∙
+    ap (λ (c : Kind). kind_text c r) (sym (kind_found ks r.kind k h e)) ∙
+    sym (row_text_lem (listed ks) r)
+
+pub past_text : (ks : List Listed) (r : Row) → length ks ≤ r.kind → [] ≡ row_text (listed ks) r
+unfolding kind_in operands_text
+past_text ks r h =
+    let e : kind_in (listed ks) r.kind ≡ kind "" [] = get_or-eq_default (listed ks) (kind "" []) (rw (length-map ks kind_of) h) in
+    ap (λ (c : Kind). kind_text c r) (sym e) ∙ sym (row_text_lem (listed ks) r)
 
 -- The line of each logic.
 pub plain_line : (logic : ℕ) → logic ≡ 0 → bytes "logic=plain\n" ≡ line_text logic_line (logic_of logic)
@@ -101,50 +205,3 @@ pub unit_line : (logic : ℕ) → (logic ≡ 0 → ⊥) → bytes "logic=unit\n"
 unfolding line_text logic_text logic_of
 unit_line zero h = absurd (h refl)
 unit_line (suc logic) h = refl
-
--- What the last arm of a match is told: the number is none of the keys above it, the last key first.
-abbrev pub NoneOf : List ℕ → ℕ → Type 0
-NoneOf [] k = Unit {0}
-NoneOf (n ∷ ns) k = NoneOf ns k × (k ≡ n → ⊥)
-
-abbrev pub below : ℕ → List ℕ
-below zero = []
-below (suc n) = n ∷ below n
-
-none_below : (n k : ℕ) → NoneOf (below n) k → n ≤ k
-none_below zero k h = omega arith
-none_below (suc n) k h =
-    let last = h.1 in
-    omega (arith, none_below n k h.0)
-
--- Past the table there is no word, and nothing is put.
-pub puts_no_word : (ks : List Kind) (k : ℕ) {a : List ℕ} {at : ℕ} → NoneOf (below (length ks)) k → Puts a at (kind_in ks k).word 16 a at
-unfolding kind_in
-puts_no_word ks k {a} {at} h =
-    rw (get_or-eq_default ks (kind "" []) (none_below (length ks) k h)) (puts_same refl (omega arith) (puts_none a at))
-
--- How many operands each kind has, 0 for these kinds.
-abbrev counted : List ℕ → List Kind → List ℕ
-counted [] ks = map (λ (c : Kind). length c.operands) ks
-counted (n ∷ ns) ks = set (counted ns ks) n 0
-
-counted_at : (ns : List ℕ) (ks : List Kind) (k : ℕ) → NoneOf ns k → get_or (counted ns ks) k 0 ≡ length (kind_in ks k).operands
-unfolding kind_in
-counted_at [] [] k h = refl
-counted_at [] (c ∷ ks) zero h = refl
-counted_at [] (c ∷ ks) (suc k) h = counted_at [] ks k tt
-counted_at (n ∷ ns) ks k h = get_or-set_other (counted ns ks) n k 0 0 h.1 ∙ counted_at ns ks k h.0
-
-zeros_at : (n k : ℕ) → ◌≡◌ {A = ℕ} 0 (get_or (replicate n 0) k 0)
-zeros_at zero k = refl
-zeros_at (suc n) zero = refl
-zeros_at (suc n) (suc k) = zeros_at n k
-
--- The kinds that the code does not name have no operand.
-pub no_form_operand : (k : ℕ) → NoneOf (7 ∷ 6 ∷ 5 ∷ 4 ∷ 3 ∷ 0 ∷ []) k → 0 ≡ length (kind_in form_kinds k).operands
-unfolding form_kinds
-no_form_operand k h = zeros_at 8 k ∙ counted_at (7 ∷ 6 ∷ 5 ∷ 4 ∷ 3 ∷ 0 ∷ []) form_kinds k h
-
-pub no_step_operand : (k : ℕ) → NoneOf (10 ∷ 7 ∷ []) k → 0 ≡ length (kind_in step_kinds k).operands
-unfolding step_kinds
-no_step_operand k h = zeros_at 18 k ∙ counted_at (10 ∷ 7 ∷ []) step_kinds k h

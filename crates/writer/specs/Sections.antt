@@ -1,5 +1,5 @@
 -- The text of a request section by section, and a section one line more.
-use Rattle.std.specs.Prelude.{ℕ, ◌+◌, ◌*◌, ◌≤◌, ◌<◌, ◌≡◌, refl, List, [], ◌∷◌, ◌++◌, length, take, drop}
+use Rattle.std.specs.Prelude.{ℕ, ◌+◌, ◌*◌, ◌≤◌, ◌<◌, ◌≡◌, refl, List, [], ◌∷◌, ◌++◌, take, drop}
 use Rattle.std.proofs.Common.{add-one, arith, ap, sym, ◌∙◌, append_assoc, append-nil, ne_eqb}
 use Rattle.scope.specs.Logic.Facts.{Logic}
 use Rattle.scope.specs.File.Bytes.{joined}
@@ -7,7 +7,8 @@ use Rattle.scope.specs.File.Line.{Line, line_text, many_text, counted_text}
 use Rattle.scope.specs.File.Text.{version_line, logic_line, logic_lines, principals_line, atoms_line, formulas_line, form_line, clauses_line, clause_line, goal_line, steps_line, step_line, body_text, request_text}
 use Rattle.scope.specs.Call.Tables.{Lent, Entry, unpack, form_entry, policy_entry, step_entry, request_of}
 use Rattle.classes.specs.Rows.{unpack_turn, unpack_length}
-use Rattle.writer.specs.Puts.{Puts, puts_then, puts_same}
+use Rattle.writer.specs.declared.output.Output.{Output}
+use Rattle.writer.specs.Wrote.{Wrote, wrote_then, wrote_same}
 
 -- The lines of the first n things of a table.
 abbrev pub table_text : {A : Type 0} → Line A → Entry A → ℕ → List ℕ → List ℕ
@@ -41,39 +42,39 @@ unfolding many_text joined
 many_more text [] x = append-nil (text x)
 many_more text (y ∷ xs) x = ap (λ (l : List ℕ). text y ++ l) (many_more text xs x) ∙ sym (append_assoc (text y) (many_text text xs) (text x))
 
--- The lines of the first i of n things are put, each of w bytes at the most, and the output is as long as it was.
-pub record LinesPut {A : Type 0} (l : Line A) (e : Entry A) (w n : ℕ) (t a : List ℕ) (at i : ℕ) (z : List ℕ) (end : ℕ) : Type 0 where
+-- Behind what stands first, the lines of the first i of n things are put, each of w bytes at the most.
+pub record LinesPut {A : Type 0} (l : Line A) (e : Entry A) (first : List ℕ) (v w n : ℕ) (t : List ℕ) (a : Output) (i : ℕ) (z : Output) : Type 0 where
   pub most : i ≤ n
-  pub put : Puts a at (table_text l e i t) (w * i) z end
-  pub long : length z ≡ length a
+  pub put : Wrote a (first ++ table_text l e i t) (v + w * i) z
 
-pub lines_none : {A : Type 0} {l : Line A} {e : Entry A} {w n : ℕ} {t a : List ℕ} {at : ℕ} → LinesPut l e w n t a at 0 a at
+pub lines_none : {A : Type 0} {l : Line A} {e : Entry A} {first : List ℕ} {v w n : ℕ} {t : List ℕ} {a z : Output} →
+    Wrote a first v z → LinesPut l e first v w n t a 0 z
 unfolding many_text joined unpack
-lines_none = record { most = omega arith; put = record { stored = refl; counted = omega arith; short = omega arith }; long = refl }
+lines_none {first = first} p = record { most = omega arith; put = wrote_same (sym (append-nil first)) (omega arith) p }
 
 -- One line more behind the first i.
-pub lines_more : {A : Type 0} {l : Line A} {e : Entry A} {w n : ℕ} {t a : List ℕ} {at i : ℕ} {x : A} {m z : List ℕ} {end next : ℕ} →
-    LinesPut l e w n t a at i m end → i < n → e.get (take e.width (drop (e.width * i) t)) ≡ x →
-    Puts m end (line_text l x) w z next → length z ≡ length m →
-    LinesPut l e w n t a at (i + 1) z next
-lines_more {A} {l} {e} {w} {n} {t} {a} {at} {i} p h same q k =
+pub lines_more : {A : Type 0} {l : Line A} {e : Entry A} {first : List ℕ} {v w n : ℕ} {t : List ℕ} {a : Output} {i : ℕ} {x : A} {m z : Output} →
+    LinesPut l e first v w n t a i m → i < n → e.get (take e.width (drop (e.width * i) t)) ≡ x → Wrote m (line_text l x) w z →
+    LinesPut l e first v w n t a (i + 1) z
+lines_more {A} {l} {e} {first} {v} {w} {n} {t} {a} {i} p h same q =
     record {
       most = omega arith;
       put =
-          puts_same
+          wrote_same
+          (append_assoc first (table_text l e i t) (line_text l _) ∙
+          ap (λ (s : List ℕ). first ++ s)
           (sym
           (ap (λ (k : ℕ). table_text l e k t) (add-one i) ∙
           ap (many_text (line_text l)) (unpack_turn e i t) ∙
           many_more (line_text l) (unpack e i t) (e.get (take e.width (drop (e.width * i) t))) ∙
-          ap (λ (y : A). table_text l e i t ++ line_text l y) same))
+          ap (λ (y : A). table_text l e i t ++ line_text l y) same)))
           (omega arith)
-          (puts_then p.put q);
-      long = k ∙ p.long;
+          (wrote_then p.put q);
     }
 
-pub lines_all : {A : Type 0} {l : Line A} {e : Entry A} {w n : ℕ} {t a : List ℕ} {at i : ℕ} {z : List ℕ} {end : ℕ} →
-    LinesPut l e w n t a at i z end → n ≤ i → Puts a at (table_text l e n t) (w * n) z end
-lines_all {A} {l} {e} {w} {n} {t} {a} {at} {i} p h =
+pub lines_all : {A : Type 0} {l : Line A} {e : Entry A} {first : List ℕ} {v w n : ℕ} {t : List ℕ} {a : Output} {i : ℕ} {z : Output} →
+    LinesPut l e first v w n t a i z → n ≤ i → Wrote a (first ++ table_text l e n t) (v + w * n) z
+lines_all {A} {l} {e} {first} {v} {w} {n} {t} {a} {i} p h =
     let same : i ≡ n = omega arith in
     rw same at p.put
 

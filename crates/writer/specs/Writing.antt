@@ -1,5 +1,5 @@
 -- What the writer answers, as document 01 says it.
-use Rattle.std.specs.Prelude.{ℕ, zero, suc, ◌≤◌, ◌<◌, ◌≡◌, refl, List, [], length, replicate}
+use Rattle.std.specs.Prelude.{ℕ, zero, suc, ◌≤◌, ◌<◌, ◌≡◌, refl, List, [], length, replicate, Err}
 use Rattle.std.proofs.Math.Nat.{sub-zero}
 use Rattle.std.proofs.Common.{ap, sym, ◌∙◌, le-leb}
 use Rattle.std.proofs.lemmas.Bool.{lt-leb}
@@ -12,25 +12,22 @@ use Rattle.scope.specs.Call.Checked.{checked}
 use Rattle.scope.specs.Call.Calls.{Written, written_if, writing, text_in, output_after}
 use Rattle.common.specs.Answers.{answer_of, answer_is}
 use Rattle.common.specs.declared.refused.Answer.{Answer as Returned}
-use Rattle.checks.specs.declared.Checked.{Checked}
-use Rattle.checks.specs.declared.Checked.TheVariants.{Fine, Refused}
-use Rattle.checks.specs.Met.{checked_of}
+use Rattle.checks.specs.Met.{Checked, Fine, checked_of}
 use Rattle.writer.specs.declared.Writing.{Writing}
 
 -- 'Its answer gives the text's length, 0 if refused.'
 unfoldable pub writing_of : Written → Writing
 writing_of w = record { refusal = refusal_in (result_answer w); place = place_in (result_answer w); length = length (text_in w) }
 
-unfoldable pub refused_as : Checked → Writing
-refused_as Fine = record { refusal = 0; place = 0; length = 0 }
-refused_as (Refused a) = record { refusal = a.refusal; place = a.place; length = 0 }
+unfoldable pub refused_as : Returned → Writing
+refused_as a = record { refusal = a.refusal; place = a.place; length = 0 }
 
 -- An output of zeros is what a refusal leaves.
 zeros_left : (len : ℕ) (w : Written) → text_in w ≡ [] → replicate len 0 ≡ output_after len w
 unfolding output_after padded
 zeros_left len w e = rw e (ap (λ (n : ℕ). replicate n 0) (sym (sub-zero len)))
 
-if_refused : (a : Answer) (s : List ℕ) (len : ℕ) (r : Returned) → checked_of a ≡ Refused r → written_if a s len ≡ refused (answer_is r)
+if_refused : (a : Answer) (s : List ℕ) (len : ℕ) (r : Returned) → checked_of a ≡ Err r → written_if a s len ≡ refused (answer_is r)
 unfolding checked_of written_if
 if_refused (told zero place column) s len r e = never cc
 if_refused (told (suc k) place column) s len r e =
@@ -52,13 +49,13 @@ unfolding writing
 writing_is t len = refl
 
 -- The three ways in which a call ends: what it answers, and what stands in the output.
-pub ends_refused : (t : Lent) (len : ℕ) (c : Checked) (r : Returned) → c ≡ checked_of (checked t) → c ≡ Refused r →
-    (refused_as c ≡ writing_of (writing t len)) × (replicate len 0 ≡ output_after len (writing t len))
+pub ends_refused : (t : Lent) (len : ℕ) (c : Checked) (r : Returned) → c ≡ checked_of (checked t) → c ≡ Err r →
+    (refused_as r ≡ writing_of (writing t len)) × (replicate len 0 ≡ output_after len (writing t len))
 unfolding refused_as writing_of result_answer text_in refusal_in place_in
 ends_refused t len c r e f =
     let w : writing t len ≡ refused (answer_is r) =
     writing_is t len ∙ if_refused (checked t) (request_text (request_of t)) len r (sym e ∙ f) in
-    (ap refused_as f ∙ ap writing_of (sym w), zeros_left len (writing t len) (ap text_in w))
+    (ap writing_of (sym w), zeros_left len (writing t len) (ap text_in w))
 
 pub ends_short : (t : Lent) (len : ℕ) (c : Checked) → c ≡ checked_of (checked t) → c ≡ Fine → len < length (request_text (request_of t)) →
     (record { refusal = 14; place = 0; length = 0 } ≡ writing_of (writing t len)) × (replicate len 0 ≡ output_after len (writing t len))

@@ -1,12 +1,10 @@
 // The writer: the text of lent tables, or the refusal of what no text says.
 #![tactic(auto)]
 
-use checks::Checked;
-use common::Counts;
+use common::{Answer, Counts, Refusal};
 use sections::put_request;
 
-mod digits;
-mod put_lines;
+mod output;
 mod sections;
 
 ghost use Rattle.std.specs.Prelude.{◌≡◌, length};
@@ -16,28 +14,23 @@ ghost use Rattle.writer.specs.Writing.{writing_of, refused_as};
 
 // The refusal, 0 where there is none, its place, and the text's length, 0 if refused.
 #[repr(C)]
-#[derive(Clone, Copy)]
+#[derive(Clone, Copy, Default)]
 pub struct Writing {
     pub refusal: u16,
     pub place: u32,
     pub length: usize,
 }
 
-// Called on a refusal alone: nothing reaches the first case.
-pub fn refused_as(checked: Checked) -> Writing
-    ensures { result ≡ refused_as checked }
-{
-    match checked {
-        Checked::Fine => Writing {
-            refusal: 0,
-            place: 0,
-            length: 0,
-        },
-        Checked::Refused(answer) => Writing {
+impl From<Answer> for Writing {
+    ghost from_gives = { λ answer written. written ≡ refused_as answer };
+
+    #[tactic(auto, unfolding(crate::specs::Writing::refused_as))]
+    fn from(answer: Answer) -> Self {
+        Writing {
             refusal: answer.refusal,
             place: answer.place,
             length: 0,
-        },
+        }
     }
 }
 
@@ -51,23 +44,17 @@ pub fn write(
     ensures answered { result ≡ writing_of (writing (lent_with counts forms.now policy.now steps.now) (length out.old)) }
     ensures output { out.new ≡ output_after (length out.old) (writing (lent_with counts forms.now policy.now steps.now) (length out.old)) }
 {
-    common::zero_bytes(out);
-    let checked = checks::check_tables(counts, forms, policy, steps);
-    let Checked::Fine = checked else {
-        return refused_as(checked);
-    };
+    out.fill(0);
+    if let Err(answer) = checks::check_tables(counts, forms, policy, steps) {
+        return Writing::from(answer);
+    }
     let length = put_request(counts, forms, policy, steps, out);
     if out.len() < length {
-        common::zero_bytes(out);
-        return Writing {
-            refusal: 14,
-            place: 0,
-            length: 0,
-        };
+        out.fill(0);
+        return Writing::from(Answer::at(Refusal::OutputTooShort, 0));
     }
     Writing {
-        refusal: 0,
-        place: 0,
         length,
+        ..Writing::default()
     }
 }
