@@ -3,6 +3,8 @@
 // difference, and at the end how many there are.
 #![tactic(auto)]
 
+ghost use Rattle.std.specs.Prelude.{◌≡◌, ℕ, ◌++◌, List, take, IfSome, IfOk};
+
 mod back;
 mod index;
 mod outcome;
@@ -88,10 +90,13 @@ fn read_file<R: Files + AllocGlobal>(rt: &R, name: &[u8]) -> io::Result<Option<V
 }
 
 // Reads the start of what a reader gives, to its end or the first read that fails.
-fn read_start<R: Read + Drop>(from: R, alloc: Global) -> io::Result<Vec<u8>> {
+fn read_start<R: Read + Drop>(from: R, alloc: Global) -> io::Result<Vec<u8>>
+    ensures { IfOk result (λ start. IfSome (R.remaining from) (λ file. (rest : List ℕ) × (take MOST_READ file ≡ start.items ++ rest))) }
+{
     let mut start = Vec::new(alloc);
-    match from.take(MOST_READ as u64).read_to_end(&mut start) {
-        Err(error) if error.kind() == ErrorKind::OutOfMemory => Err(error),
-        _ => Ok(start),
+    let ended = from.take(MOST_READ as u64).read_to_end(&mut start);
+    if ended.is_err_and(|error| error.kind() == ErrorKind::OutOfMemory) {
+        return Err(ErrorKind::OutOfMemory.into());
     }
+    Ok(start)
 }

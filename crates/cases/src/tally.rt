@@ -38,7 +38,10 @@ impl Tally {
             cases: ran.len(),
             differ: ran.iter().filter(|ran| !ran.as_wanted).count(),
             written: ran.iter().filter(|ran| ran.back.is_some()).count(),
-            changed: ran.iter().filter(|ran| ran.back == Some(Back::Changed)).count(),
+            changed: ran
+                .iter()
+                .filter(|ran| ran.back == Some(Back::Changed))
+                .count(),
         }
     }
 }

@@ -13,15 +13,15 @@ use std::io;
 use std::io::{Print, Read};
 
 fn main(rt: HostRuntime) {
-    let mut text = [0u8; 128];
-    let Ok(end) = answer(&mut rt.stdin(), &mut text) else {
+    let mut room = [0u8; 128];
+    let Ok(text) = answer(&mut rt.stdin(), &mut room) else {
         // A part of a request is not the request, so there is no answer to print.
         let _ = rt
             .stderr()
             .write_all(b"gate: standard input cannot be read\n");
         return;
     };
-    let written = rt.stdout().write_all(&text[..end]);
+    let written = rt.stdout().write_all(text);
     if written.is_err() {
         // An answer that arrives in part, or not at all, is no answer.
         let _ = rt
@@ -30,16 +30,15 @@ fn main(rt: HostRuntime) {
     }
 }
 
-// Puts the answer to the request that is read at the start of the text, and says how long it is; an error where the input cannot be read.
-fn answer<R: Read>(from: &mut R, text: &mut [u8; 128]) -> io::Result<usize>
-    ensures prefix_len { IfOk result (λ end. IsPrefixLen end text.new) }
-    ensures answered { IfOk result (λ end. IfSome (R.remaining from.old) (λ file. Answered file (take end text.new))) }
+// Puts the answer to the request that is read at the start of the room, and gives it; an error where the input cannot be read.
+fn answer<'a, R: Read>(from: &mut R, room: &'a mut [u8; 128]) -> io::Result<&'a [u8]>
+    ensures { IfOk result (λ text. IfSome (R.remaining from.old) (λ file. Answered file text.now)) }
 {
     // One byte past the longest file tells that a file is longer, however long it is.
     let mut file = [0u8; 65537];
     let length = read_input(from, &mut file)?;
     let printed = gatelib::gate(&file[..length]);
-    Ok(shown::put_printed(printed, text))
+    Ok(shown::put_printed(printed, room))
 }
 
 // Reads until the input ends or the file is full, and answers how many bytes that were. A read that fails is not the input's end.

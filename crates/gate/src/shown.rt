@@ -1,21 +1,20 @@
 // The text that the program prints, made in full before any of it is written.
 ghost use Rattle.std.specs.Prelude.{◌+◌, ◌≤◌, ◌≡◌, ◌++◌, length, take};
-ghost use Rattle.std.specs.Counts.{IsPrefixLen};
 ghost use Rattle.gate.specs.Shown.{Longer, Shown};
 
-// Puts the four lines at the start of the text, and answers how long they are.
-pub(crate) fn put_printed(printed: gatelib::Printed, text: &mut [u8; 128]) -> usize
-    ensures prefix_len { IsPrefixLen result text.new }
-    ensures shown { Shown printed.answer printed.place printed.steps printed.column (take result text.new) }
+// Puts the four lines at the start of the room, and answers them.
+pub(crate) fn put_printed(printed: gatelib::Printed, room: &mut [u8; 128]) -> &[u8]
+    ensures { Shown printed.answer printed.place printed.steps printed.column result.now }
 {
     let answer = u64::from(printed.answer);
     let place = u64::from(printed.place);
     let steps = u64::from(printed.steps);
     let column = u64::from(printed.column);
-    let first = put_line(b"answer=", answer, text, 0);
-    let second = put_line(b"place=", place, text, first);
-    let third = put_line(b"steps=", steps, text, second);
-    put_line(b"column=", column, text, third)
+    let first = put_line(b"answer=", answer, room, 0);
+    let second = put_line(b"place=", place, room, first);
+    let third = put_line(b"steps=", steps, room, second);
+    let fourth = put_line(b"column=", column, room, third);
+    &room[..fourth]
 }
 
 // Puts a line into the text from `at` on, and answers where it ends.

@@ -1,7 +1,6 @@
 // A case: P1 with one thing changed, lent to writer and judge, or to the writer alone.
 use crate::tables::{Edit, Lent, Sizes, Tables, front};
 use common::Counts;
-use reader::Reading;
 use std::io;
 use writer::Writing;
 
@@ -138,8 +137,7 @@ fn reads_back(text: &[u8], lent: Lent<'_>) -> bool {
     let mut forms = [1u16; 3072];
     let mut policy = [1u16; 128];
     let mut steps = [1u16; 4096];
-    let got = reader::read_request(text, &mut forms, &mut policy, &mut steps);
-    matches!(got, Reading::Read(_))
+    reader::read_request(text, &mut forms, &mut policy, &mut steps).is_ok()
         && lent.forms.starts_with(&forms)
         && lent.policy.starts_with(&policy)
         && lent.steps.starts_with(&steps)

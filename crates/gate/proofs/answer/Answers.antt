@@ -1,15 +1,15 @@
 -- What is judged are the file's first bytes, which are all of it or more than a file may have (`answered`).
 -- Assumes nothing.
-use Rattle.std.proofs.Common.{subst, take, arith}
+use Rattle.std.proofs.Common.{subst, arith}
 use Rattle.gatelib.specs.declared.Printed.{Printed}
 use Rattle.gate.specs.Shown.{Shown}
 use Rattle.gate.proofs.Handed.{answered}
 use Rattle.gate.proofs.answer.Goals as goal
 
-pub returns-clause-answered : goal.returns-clause-answered
-returns-clause-answered g c =
+pub returns : goal.returns
+returns g c =
     let read = c.in_ok-length in
-    let text = take c.put_printed.result c.put_printed.new.text in
+    let text = c.put_printed.result.now in
     let numbers = λ (p : Printed). Shown p.answer p.place p.steps p.column text in
     answered
     (g.R.Read.remaining c.args.from.now)
@@ -20,4 +20,4 @@ returns-clause-answered g c =
     (omega arith)
     read.ensures.consumed
     read.ensures.whole
-    (subst numbers c.gate-printed.ensures c.put_printed.ensures.shown)
+    (subst numbers c.gate-printed.ensures c.put_printed.ensures)
