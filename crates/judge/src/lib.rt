@@ -2,68 +2,35 @@
 #![tactic(auto)]
 
 ghost use Rattle.std.specs.Prelude.{◌≡◌};
-ghost use Rattle.scope.specs.Logic.Facts.{is_unit};
-ghost use Rattle.scope.specs.File.Kinds.{logic_of};
 ghost use Rattle.scope.specs.Call.Judge.{judge as judge'};
 ghost use Rattle.checks.specs.Met.{lent_with};
 ghost use Rattle.common.specs.Answers.{answer_of};
 ghost use Rattle.judge.specs.Answers.{refusal_answer, walked_to};
 
-use checks::Checked;
 use common::{Answer, Counts};
-use machine::{Walked, walking};
+use machine::{StepRefusal, walking};
 
-// Called on a refusal alone: nothing reaches the first case.
-fn refused_by(checks: Checked) -> Answer
-    ensures { result ≡ refusal_answer checks }
+// The answer where nothing is refused.
+const GRANTED: Answer = Answer {
+    refusal: 0,
+    place: 0,
+    column: 0,
+};
+
+// The place of a step that is refused is its number.
+#[tactic(auto, unfolding(crate::specs::Answers::walked_to))]
+fn refused_at(r: StepRefusal) -> Answer
+    ensures { result ≡ walked_to (Err r) }
 {
-    match checks {
-        Checked::Fine => Answer {
-            refusal: 0,
-            place: 0,
-            column: 0,
-        },
-        Checked::Refused(answer) => answer,
-    }
+    Answer::at(r.refusal, r.step)
 }
 
-fn is_unit(logic: u16) -> bool
-    ensures { result ≡ is_unit (logic_of logic) }
+// The first refusal, of the checks or else of the walk.
+fn judged(counts: Counts, forms: &[u16], policy: &[u16], steps: &[u16]) -> Result<(), Answer>
+    ensures { refusal_answer result ≡ answer_of (judge' (lent_with counts forms.now policy.now steps.now)) }
 {
-    if logic == 0 {
-        return false;
-    }
-    true
-}
-
-// The number of an answer that is no refusal.
-const GRANTED: u16 = 0;
-
-fn walked_to(walked: Walked) -> Answer
-    ensures { result ≡ walked_to walked }
-{
-    match walked {
-        Walked::Granted => Answer {
-            refusal: GRANTED,
-            place: 0,
-            column: 0,
-        },
-        Walked::Refused(r) => Answer {
-            refusal: r.number,
-            place: r.step,
-            column: 0,
-        },
-    }
-}
-
-pub fn judge(counts: Counts, forms: &[u16], policy: &[u16], steps: &[u16]) -> Answer
-    ensures { result ≡ answer_of (judge' (lent_with counts forms.now policy.now steps.now)) }
-{
-    let checks = checks::check_tables(counts, forms, policy, steps);
-    let Checked::Fine = checks else {
-        return refused_by(checks);
-    };
-    let unit = is_unit(counts.logic);
+    checks::check_tables(counts, forms, policy, steps)?;
+    let unit = counts.logic != 0;
     let walked = walking::walk_steps(
         forms,
         policy,
@@ -73,5 +40,15 @@ pub fn judge(counts: Counts, forms: &[u16], policy: &[u16], steps: &[u16]) -> An
         counts.goal,
         counts.steps,
     );
-    walked_to(walked)
+    walked.map_err(refused_at)
+}
+
+#[tactic(auto, unfolding(crate::specs::Answers::refusal_answer))]
+pub fn judge(counts: Counts, forms: &[u16], policy: &[u16], steps: &[u16]) -> Answer
+    ensures { result ≡ answer_of (judge' (lent_with counts forms.now policy.now steps.now)) }
+{
+    match judged(counts, forms, policy, steps) {
+        Ok(()) => GRANTED,
+        Err(refused) => refused,
+    }
 }
