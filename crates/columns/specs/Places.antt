@@ -16,6 +16,7 @@ use Rattle.common.specs.Kinds.{sort_of, kind_of, listed}
 use Rattle.common.specs.declared.kinds.Kind.{Kind}
 use Rattle.lines.specs.Parts.{tail_part}
 use Rattle.lines.specs.Answers.{number_answer}
+use Rattle.trip.specs.LineStops.{number_within}
 use Rattle.columns.specs.NumberPart.{number_whole}
 use Rattle.columns.specs.RowPart.{tells_items}
 
@@ -230,3 +231,14 @@ furthest_from (c ∷ cs) s best =
 pub furthest_is : (kinds : List Kind) (s : List ℕ)
     → kinds_stop (listed kinds) s ≡ fold (λ (b : ℕ) (k : Kind). max (kind_stop (kind_of k) s) b) 0 kinds
 furthest_is kinds s = omega (arith, furthest_from kinds s 0)
+
+-- What the code's goals are proved by: a word or a key, a number, the LF, and items.
+pub ruleset fronts = (stands_is, word_within, word_short, word_whole, tail_part)
+
+pub ruleset ends = (end_none, end_met, end_other)
+
+pub ruleset digits = (digits_none, digits_some, number_within, end_within)
+
+pub ruleset operands = (items_ended, items_other, items_blank, items_goes, items_done, number_within, end_within, tail_part)
+
+pub ruleset kinds = (kind_stands, items_within)

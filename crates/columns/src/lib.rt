@@ -32,7 +32,7 @@ fn number_stop(text: &[u8]) -> usize
     lines::read_number(text).err().unwrap_or(text.len())
 }
 
-#[tactic(auto, using(crate::specs::Places::end_none, crate::specs::Places::end_met, crate::specs::Places::end_other))]
+#[tactic(auto, using(crate::specs::Places::ends))]
 fn end_stop(text: &[u8]) -> usize
     ensures { result ≡ end_stop text.now }
 {
@@ -43,7 +43,7 @@ fn end_stop(text: &[u8]) -> usize
 }
 
 // Behind a kind's word: a space and a number for each operand, then the LF.
-#[tactic(auto, using(crate::specs::Places::items_ended, crate::specs::Places::items_other, crate::specs::Places::items_blank, crate::specs::Places::items_goes, crate::specs::Places::items_done, trip::specs::LineStops::number_within, crate::specs::Places::end_within, lines::specs::Parts::tail_part))]
+#[tactic(auto, using(crate::specs::Places::operands))]
 fn items_stop(text: &[u8], wanted: usize) -> usize
     ensures { result ≡ items_stop wanted text.now }
 {
@@ -62,7 +62,7 @@ fn items_stop(text: &[u8], wanted: usize) -> usize
 }
 
 // A kind's word and its items.
-#[tactic(auto, using(crate::specs::Places::stands_is, crate::specs::Places::word_within, crate::specs::Places::word_short, crate::specs::Places::word_whole, crate::specs::Places::kind_stands, crate::specs::Places::items_within, lines::specs::Parts::tail_part))]
+#[tactic(auto, using(crate::specs::Places::fronts, crate::specs::Places::kinds))]
 fn kind_stop(text: &[u8], kind: &Kind) -> usize
     ensures { result ≡ kind_stop (kind_of kind.now) text.now }
 {
@@ -84,7 +84,7 @@ fn kinds_stop(text: &[u8], kinds: &[Kind]) -> usize
 }
 
 // A line whose value is of one of these kinds.
-#[tactic(auto, using(crate::specs::Places::stands_is, crate::specs::Places::word_within, crate::specs::Places::word_short, crate::specs::Places::word_whole, crate::specs::RowPart::table_bounded, lines::specs::Parts::tail_part))]
+#[tactic(auto, using(crate::specs::Places::fronts, crate::specs::RowPart::table_bounded))]
 fn kind_line(text: &[u8], key: &[u8], kinds: &[Kind]) -> usize
     ensures { result ≡ word_stop key.now (kinds_stop (listed kinds.now)) text.now }
 {
@@ -96,7 +96,7 @@ fn kind_line(text: &[u8], key: &[u8], kinds: &[Kind]) -> usize
 }
 
 // A line with a number.
-#[tactic(auto, using(crate::specs::Places::stands_is, crate::specs::Places::word_within, crate::specs::Places::word_short, crate::specs::Places::word_whole, crate::specs::Places::digits_none, crate::specs::Places::digits_some, trip::specs::LineStops::number_within, crate::specs::Places::end_within, lines::specs::Parts::tail_part), unfolding(scope::specs::File::Line::line_stop))]
+#[tactic(auto, using(crate::specs::Places::fronts, crate::specs::Places::digits), unfolding(scope::specs::File::Line::line_stop))]
 pub fn number_line(text: &[u8], key: &[u8]) -> usize
     ensures { result ≡ line_stop (number_with key.now) text.now }
 {

@@ -5,3 +5,4 @@ pub mod Answers
 pub mod Operands
 pub mod Items
 pub mod Rows
+pub mod Codes

@@ -38,9 +38,9 @@ pub small_logics : is_small logic_kinds ≡ true
 unfolding logic_kinds is_small all_small both
 small_logics = refl
 
-pub few_kinds : (ks : List Kind) → is_small ks ≡ true → length ks ≤ 18
+pub few_kinds : (kinds : List Entry) → is_small (listed kinds) ≡ true → length kinds ≤ 18
 unfolding is_small
-few_kinds ks e = leb-true (length ks) 18 (both_true _ _ e).0
+few_kinds kinds e = simp length-map at (leb-true (length (listed kinds)) 18 (both_true _ _ e).0)
 
 few_each : (ks : List Kind) → all_small ks ≡ true → (k : ℕ) → length (kind_in ks k).operands ≤ 2
 unfolding all_small kind_in

@@ -32,6 +32,7 @@ fn find_byte(text: &[u8], byte: u8) -> Option<usize>
 }
 
 // What stands before the first `byte`, and what after it.
+#[tactic(auto, using(crate::specs::Parts::cut_is, crate::specs::Parts::tail_part))]
 fn cut(text: &[u8], byte: u8) -> Option<(&[u8], &[u8])>
     ensures { MatchOption result (cut byte text.now ≡ uncut) (λ p. cut byte text.now ≡ parts p.0.now p.1.now) }
 {
@@ -40,6 +41,7 @@ fn cut(text: &[u8], byte: u8) -> Option<(&[u8], &[u8])>
 }
 
 // What stands after the key in the text's first line; the empty part where there is no such line.
+#[tactic(auto, using(crate::specs::Values::value_is, crate::specs::Values::value_none))]
 pub fn value_of<'a>(text: &'a [u8], key: &[u8]) -> &'a [u8]
     ensures { result.now ≡ value_of key.now text.now }
 {
@@ -50,6 +52,7 @@ pub fn value_of<'a>(text: &'a [u8], key: &[u8]) -> &'a [u8]
 }
 
 // What stands after the text's first LF; the empty part where there is none.
+#[tactic(auto, using(crate::specs::Values::rest_is, crate::specs::Values::rest_none))]
 pub fn rest_of(text: &[u8]) -> &[u8]
     ensures { result.now ≡ rest_of text.now }
 {
@@ -97,6 +100,7 @@ fn find_kind(kinds: &[Kind], word: &[u8]) -> Option<usize>
 }
 
 // The number of that kind.
+#[tactic(auto, using(crate::specs::Items::kind_is, crate::specs::Items::kind_within, crate::specs::Rows::few_kinds))]
 fn kind_number(kinds: &[Kind], word: &[u8]) -> Option<u16>
     requires { is_small (listed kinds.now) ≡ true }
     ensures { result ≡ kind_answer (kind_from 0 (listed kinds.now) word.now) }
@@ -106,6 +110,7 @@ fn kind_number(kinds: &[Kind], word: &[u8]) -> Option<u16>
 }
 
 // An operand, which stands where it is wanted and nowhere else: 0 where none is.
+#[tactic(auto, using(crate::specs::Answers::ok_number), unfolding(crate::specs::Operands::operand_of))]
 fn operand(item: Option<&[u8]>, wanted: bool) -> Option<u32>
     ensures { result ≡ operand_of (shown item.entry) wanted }
 {
@@ -134,6 +139,7 @@ fn row_in(kinds: &[Kind], value: &[u8]) -> Option<Items>
 }
 
 // The number of the logic whose word a value is.
+#[tactic(auto, using(crate::specs::Rows::small_logics))]
 pub fn logic_number(value: &[u8]) -> Option<u16>
     ensures { result ≡ kind_answer (kind_from 0 logic_kinds value.now) }
 {
@@ -141,6 +147,7 @@ pub fn logic_number(value: &[u8]) -> Option<u16>
 }
 
 // The value of a `form=` line.
+#[tactic(auto, using(crate::specs::Rows::small_forms))]
 pub fn form_row(value: &[u8]) -> Option<Items>
     ensures { result ≡ row_answer (row_in form_kinds value.now) }
 {
@@ -148,6 +155,7 @@ pub fn form_row(value: &[u8]) -> Option<Items>
 }
 
 // The value of a `step=` line.
+#[tactic(auto, using(crate::specs::Rows::small_steps))]
 pub fn step_row(value: &[u8]) -> Option<Items>
     ensures { result ≡ row_answer (row_in step_kinds value.now) }
 {
