@@ -17,10 +17,9 @@ pub const WORLDS: usize = MOST_WORLDS as usize;
 
 pub const PRINCIPALS: usize = MOST_PRINCIPALS as usize;
 
-// The rows that lead to a world: one of ≤, one of its ancestors, PRINCIPALS of S, PRINCIPALS of sf.
+// The rows that lead to a world: one of ≤, one of its ancestors, PRINCIPALS of S, PRINCIPALS of sf. Below, how far into them each begins.
 const EACH: usize = 2 + 2 * PRINCIPALS;
 
-// How far into a world's rows each of these begins.
 const LE: u16 = 0;
 
 const UP: u16 = 1;
@@ -31,6 +30,7 @@ const SF: u16 = BY + MOST_PRINCIPALS;
 
 pub const ROWS: usize = WORLDS * EACH;
 
+// The rows of all worlds, one world's after another's.
 #[derive(Drop)]
 pub struct Facts {
     pub rows: [Row; ROWS],
@@ -51,7 +51,7 @@ fn bit_of(row: Row, i: u16) -> bool
     i < MOST_WORLDS && (row >> i) % 2 == 1
 }
 
-#[tactic(auto, using(crate::specs::Bits::one_shifted, crate::specs::Bits::one_past))]
+#[tactic(auto, using(crate::specs::Bits::one_past))]
 fn one_bit(i: u16) -> Row
     ensures { result ≡ one_bit i }
 {
@@ -59,7 +59,7 @@ fn one_bit(i: u16) -> Row
 }
 
 impl Facts {
-    // A row past the end reads as 0, and is not written.
+    // A row that leads to a world: past the last world it reads as 0.
     fn row(&self, v: World, part: u16) -> Row
         ensures { result ≡ get_or self.now.rows (row_at v.0 part) 0 }
     {
@@ -78,7 +78,7 @@ impl Facts {
         }
     }
 
-    // All rows of S, or of sf, of a world.
+    // All rows of S, or of sf, of a world: past the last world they read as 0, and are not written.
     fn block(&self, v: World, part: u16) -> [Row; PRINCIPALS]
         requires { part + principals_max ≤ rows_each }
         ensures { result ≡ block self.now.rows (row_at v.0 part) }
@@ -140,6 +140,7 @@ impl Facts {
     }
 
     // World 0 alone.
+    #[tactic(auto, unfolding(crate::specs::Fill::fill))]
     pub fn root_rows(&mut self)
         ensures { self.new.rows ≡ root_rows }
     {
@@ -178,6 +179,7 @@ impl Facts {
     }
 
     // A new world n behind u by u S_a n; with unit u ≤ n too, and what S leads to u it leads to n.
+    #[tactic(auto, unfolding(crate::specs::Fill::fill))]
     pub fn grow_by(&mut self, unit: bool, a: Principal, u: World, n: World)
         ensures { self.new.rows ≡ grown_by unit self.old.rows a.0 u.0 n.0 }
     {
@@ -198,6 +200,7 @@ impl Facts {
     }
 
     // m: a sf b noted at the newest world m.
+    #[tactic(auto, unfolding(crate::specs::Fill::fill))]
     pub fn add_note(&mut self, m: World, a: Principal, b: Principal)
         ensures { self.new.rows ≡ noted self.old.rows m.0 a.0 b.0 }
     {

@@ -3,13 +3,9 @@ use Rattle.std.proofs.Common.{◌≡◌, refl, sym, ◌∙◌, arith}
 use Rattle.std.specs.Int.Bits.{or_zero_r}
 use Rattle.facts.specs.Rows.{principals_max}
 use Rattle.facts.proofs.Made.{made_note}
-use Rattle.facts.specs.Fill.{fill, fill_front, fill_still}
+use Rattle.facts.specs.Fill.{fill_front, fill_still}
 use Rattle.facts.proofs.Facts.add_note.Goals as goal
 use Rattle.facts.proofs.Facts.add_note.Goals.{then-bit_of, else-bit_of}
-
-pub loop-row-init : goal.loop-row-init
-unfolding fill
-loop-row-init c = refl
 
 pub loop-row-preserved : goal.loop-row-preserved
 loop-row-preserved c =

@@ -3,13 +3,9 @@ use Rattle.std.proofs.Common.{◌≡◌, refl, sym, ◌∙◌, arith}
 use Rattle.std.specs.Int.Bits.{or_zero_r}
 use Rattle.facts.specs.Rows.{principals_max}
 use Rattle.facts.proofs.Made.{Beside, made_by, beside_unit, beside_plain}
-use Rattle.facts.specs.Fill.{fill, fill_front, fill_still}
+use Rattle.facts.specs.Fill.{fill_front, fill_still}
 use Rattle.facts.proofs.Facts.grow_by.Goals as goal
 use Rattle.facts.proofs.Facts.grow_by.Goals.{then-bit_of, else-bit_of, then-unit, else-unit}
-
-pub loop-c-init : goal.loop-c-init
-unfolding fill
-loop-c-init c = refl
 
 pub loop-c-preserved : goal.loop-c-preserved
 loop-c-preserved c =

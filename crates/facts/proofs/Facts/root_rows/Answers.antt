@@ -10,10 +10,6 @@ stored : (r o : List ℕ) {x y z s : List ℕ} {l u c : ℕ} → l ≡ le_at 0 �
 unfolding with_root put_sf
 stored r o {z = z} {c = c} hl hu hy hz size done hs hx = hx ∙ put_filled one_bit z (sf_at 0) c o size done hs ∙ rw (hz, hy, hu, hl) refl
 
-pub loop-c-init : goal.loop-c-init
-unfolding fill
-loop-c-init c = refl
-
 pub loop-c-preserved : goal.loop-c-preserved
 loop-c-preserved c = fill_front _ _ _ c.loop-c.invariant c.one_bit.ensures
 
