@@ -140,7 +140,7 @@ impl Facts {
     }
 
     // World 0 alone.
-    #[tactic(auto, unfolding(crate::specs::Fill::fill))]
+    #[tactic(auto, using(crate::specs::Fill::fill_front), unfolding(crate::specs::Fill::fill))]
     pub fn root_rows(&mut self)
         ensures { self.new.rows ≡ root_rows }
     {
@@ -168,6 +168,7 @@ impl Facts {
     }
 
     // A new world n behind u by u ≤ n: what S leads to u it leads to n.
+    #[tactic(auto, using(crate::proofs::Made::made_le))]
     pub fn grow_le(&mut self, u: World, n: World)
         ensures { self.new.rows ≡ grown_le self.old.rows u.0 n.0 }
     {

@@ -1,7 +1,7 @@
 -- The stores, one after the other, on a table of zeros.
 use Rattle.std.proofs.Common.{ℕ, ◌≡◌, refl, List, length, set, replicate, ◌∙◌, arith}
 use Rattle.facts.specs.Rows.{principals_max, rows_max, le_at, up_at, sf_at, put_sf, with_root, root_rows, one_bit}
-use Rattle.facts.specs.Fill.{fill, fill_front}
+use Rattle.facts.specs.Fill.{fill}
 use Rattle.facts.specs.Block.{put_filled}
 use Rattle.facts.proofs.Facts.root_rows.Goals as goal
 
@@ -9,9 +9,6 @@ stored : (r o : List ℕ) {x y z s : List ℕ} {l u c : ℕ} → l ≡ le_at 0 �
     length o ≡ principals_max → c ≡ principals_max → s ≡ fill one_bit 0 c o → x ≡ put_sf z 0 s → x ≡ with_root r
 unfolding with_root put_sf
 stored r o {z = z} {c = c} hl hu hy hz size done hs hx = hx ∙ put_filled one_bit z (sf_at 0) c o size done hs ∙ rw (hz, hy, hu, hl) refl
-
-pub loop-c-preserved : goal.loop-c-preserved
-loop-c-preserved c = fill_front _ _ _ c.loop-c.invariant c.one_bit.ensures
 
 pub returns : goal.returns
 unfolding root_rows
