@@ -1,5 +1,5 @@
 -- The gate's answer by its two parts: the reader's refusal with no steps, or what the judge answers on the tables that reading left.
-use Rattle.std.specs.Prelude.{ℕ, ◌*◌, ◌≡◌, refl, List, length}
+use Rattle.std.specs.Prelude.{ℕ, ◌*◌, ◌≡◌, refl, List, Ok, Err, length}
 use Rattle.std.proofs.Common.{sym, ap, ◌∙◌}
 use Rattle.scope.specs.Call.Result.{result, refused}
 use Rattle.scope.specs.Call.Answer.{told}
@@ -14,7 +14,6 @@ use Rattle.scope.specs.Call.Judge as J
 use Rattle.common.specs.declared.Counts.{Counts}
 use Rattle.common.specs.declared.refused.Answer.{Answer as Returned}
 use Rattle.checks.specs.Met.{lent_with}
-use Rattle.reader.specs.declared.Reading.{Reading}
 use Rattle.reader.specs.Answers.{counts_of, reading_of, logic_back}
 use Rattle.common.specs.Answers.{answer_of}
 use Rattle.scope.specs.Tools.Tests.{never}
@@ -24,18 +23,19 @@ use Rattle.gatelib.specs.declared.Printed.{Printed}
 unfoldable pub printed_of : J.Printed → Printed
 printed_of (prints k place n column) = record { answer = k; place = place; steps = n; column = column }
 
-unfoldable pub unread_of : Reading → Printed
-unread_of (Reading.Read c) = record { answer = 0; place = 0; steps = 0; column = 0 }
-unread_of (Reading.Refused r) = record { answer = r.refusal; place = r.place; steps = 0; column = r.column }
+-- An answer with no steps read.
+unfoldable pub unread_of : Returned → Printed
+unread_of r = record { answer = r.refusal; place = r.place; steps = 0; column = r.column }
 
-pub unread_prints : (s : List ℕ) (r : Returned) → reading_of (gate_reads s) ≡ Reading.Refused r →
-    unread_of (Reading.Refused r) ≡ printed_of (gate s)
+pub unread_prints : (s : List ℕ) (r : Returned) → reading_of (gate_reads s) ≡ Err r → unread_of r ≡ printed_of (gate s)
 unfolding reading_of unread_of printed_of
 unread_prints s r e = go (gate_reads s) refl e
   where
-    go : (o : Outcome) → gate_reads s ≡ o → reading_of o ≡ Reading.Refused r → unread_of (Reading.Refused r) ≡ printed_of (gate s)
+    go : (o : Outcome) → gate_reads s ≡ o → reading_of o ≡ Err r → unread_of r ≡ printed_of (gate s)
     go (result q) c d = never cc
-    go (refused (told k place column)) c d = rw (prints_gate s (prints k place 0 column) (unread c)) (ap unread_of (sym d))
+    go (refused (told k place column)) c d =
+        let same : answer_of (told k place column) ≡ r = cc in
+        rw (prints_gate s (prints k place 0 column) (unread c)) (ap unread_of (sym same))
 
 printed_answer : (a : S.Answer) (n : ℕ) →
     printed_of (printed a n) ≡ record { answer = (answer_of a).refusal; place = (answer_of a).place; steps = n; column = (answer_of a).column }
@@ -66,13 +66,13 @@ abbrev put : Returned → ℕ → Printed
 put a n = record { answer = a.refusal; place = a.place; steps = n; column = a.column }
 
 -- What the gate puts together from the judge's answer and the count of steps.
-pub read_prints : (s : List ℕ) (c : Counts) (forms policy steps : List ℕ) (a : Returned) → reading_of (gate_reads s) ≡ Reading.Read c →
+pub read_prints : (s : List ℕ) (c : Counts) (forms policy steps : List ℕ) (a : Returned) → reading_of (gate_reads s) ≡ Ok c →
     forms ≡ form_table_after (3 * most_formulas) (gate_reads s) → policy ≡ policy_table_after most_policy_lines (gate_reads s) → steps ≡ step_table_after (2 * most_steps) (gate_reads s) →
     a ≡ answer_of (judge (lent_with c forms policy steps)) → put a c.steps ≡ printed_of (gate s)
 unfolding reading_of
 read_prints s c forms policy steps a e f l p j = go (gate_reads s) refl e
   where
-    go : (o : Outcome) → gate_reads s ≡ o → reading_of o ≡ Reading.Read c → put a c.steps ≡ printed_of (gate s)
+    go : (o : Outcome) → gate_reads s ≡ o → reading_of o ≡ Ok c → put a c.steps ≡ printed_of (gate s)
     go (refused (told k place column)) d h = never cc
     go (result q) d h =
         let k : counts_of q ≡ c = cc in

@@ -5,7 +5,7 @@ ghost use Rattle.std.specs.Prelude.{◌≡◌};
 ghost use Rattle.scope.specs.Call.Judge.{gate as gate'};
 ghost use Rattle.gatelib.specs.Printing.{printed_of, unread_of};
 
-use reader::Reading;
+use common::Answer;
 
 // The refusal number, the place, the steps read (0 if reading is refused), and for refusal 2 the column.
 #[repr(C)]
@@ -17,23 +17,18 @@ pub struct Printed {
     pub column: u16,
 }
 
-// Called on a refusal alone: nothing reaches the first case.
-fn unread_by(got: Reading) -> Printed
-    ensures { result ≡ unread_of got }
-{
-    match got {
-        Reading::Read(_) => Printed {
-            answer: 0,
-            place: 0,
+// An answer with no steps read.
+impl From<Answer> for Printed {
+    ghost from_gives = { λ answer printed. printed ≡ unread_of answer };
+
+    #[tactic(auto, unfolding(crate::specs::Printing::unread_of))]
+    fn from(answer: Answer) -> Self {
+        Printed {
+            answer: answer.refusal,
+            place: answer.place,
             steps: 0,
-            column: 0,
-        },
-        Reading::Refused(r) => Printed {
-            answer: r.refusal,
-            place: r.place,
-            steps: 0,
-            column: r.column,
-        },
+            column: answer.column,
+        }
     }
 }
 
@@ -43,15 +38,14 @@ pub fn gate(file: &[u8]) -> Printed
     let mut forms = [0u16; common::FORM_ROOM];
     let mut policy = [0u16; common::POLICY_ROOM];
     let mut steps = [0u16; common::STEP_ROOM];
-    let got = reader::read_request(file, &mut forms, &mut policy, &mut steps);
-    let Reading::Read(counts) = got else {
-        return unread_by(got);
-    };
-    let a = judge::judge(counts, &forms, &policy, &steps);
-    Printed {
-        answer: a.refusal,
-        place: a.place,
-        steps: counts.steps,
-        column: a.column,
+    match reader::read_request(file, &mut forms, &mut policy, &mut steps) {
+        Err(answer) => Printed::from(answer),
+        Ok(counts) => {
+            let answer = judge::judge(counts, &forms, &policy, &steps);
+            Printed {
+                steps: counts.steps,
+                ..Printed::from(answer)
+            }
+        }
     }
 }

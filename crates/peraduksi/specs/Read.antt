@@ -1,10 +1,11 @@
 -- What the reader answers, as one record: the refusal, its place and its column, and the counts and the goal, which are 0 after a refusal.
-use Rattle.std.specs.Prelude.{◌≡◌, refl}
+use Rattle.std.specs.Prelude.{◌≡◌, refl, Result, Ok, Err}
 use Rattle.scope.specs.Call.Result.{result, refused, result_answer}
 use Rattle.scope.specs.Call.Answer.{told, refusal_in, place_in, column_in}
 use Rattle.scope.specs.File.Reader.{Outcome}
 use Rattle.scope.specs.Call.Calls.{no_request, request_in}
-use Rattle.reader.specs.declared.Reading.{Reading}
+use Rattle.common.specs.declared.Counts.{Counts}
+use Rattle.common.specs.declared.refused.Answer.{Answer as Returned}
 use Rattle.reader.specs.Answers.{counts_of, reading_of}
 use Rattle.peraduksi.specs.declared.Read.{Read}
 
@@ -18,9 +19,9 @@ read_of o =
       counts = counts_of (request_in o);
     }
 
-unfoldable pub read_in : Reading → Read
-read_in (Reading.Read c) = record { refusal = 0; place = 0; column = 0; counts = c }
-read_in (Reading.Refused r) = record { refusal = r.refusal; place = r.place; column = r.column; counts = counts_of no_request }
+unfoldable pub read_in : Result Counts Returned → Read
+read_in (Ok c) = record { refusal = 0; place = 0; column = 0; counts = c }
+read_in (Err r) = record { refusal = r.refusal; place = r.place; column = r.column; counts = counts_of no_request }
 
 pub read_in_lem : (o : Outcome) → read_in (reading_of o) ≡ read_of o
 unfolding read_in reading_of read_of refusal_in place_in column_in result_answer request_in

@@ -13,12 +13,11 @@ ghost use Rattle.peraduksi.specs.Read.{read_of, read_in};
 
 use common::{Answer, Counts};
 use gatelib::Printed;
-use reader::Reading;
 use writer::Writing;
 
 // The refusal, 0 where there is none, its place, for 2 the column, and version and logic, the counts and the goal, all 0 if refused.
 #[repr(C)]
-#[derive(Clone, Copy)]
+#[derive(Clone, Copy, Default)]
 pub struct Read {
     pub refusal: u16,
     pub place: u32,
@@ -26,31 +25,23 @@ pub struct Read {
     pub counts: Counts,
 }
 
-fn read_in(got: Reading) -> Read
-    ensures { result ≡ read_in got }
-{
-    match got {
-        Reading::Read(counts) => Read {
-            refusal: 0,
-            place: 0,
-            column: 0,
-            counts,
-        },
-        Reading::Refused(r) => Read {
-            refusal: r.refusal,
-            place: r.place,
-            column: r.column,
-            counts: Counts {
-                version: 0,
-                logic: 0,
-                principals: 0,
-                atoms: 0,
-                formulas: 0,
-                policy: 0,
-                goal: 0,
-                steps: 0,
+impl From<Result<Counts, Answer>> for Read {
+    ghost from_gives = { λ got read. read ≡ read_in got };
+
+    #[tactic(auto, unfolding(crate::specs::Read::read_in))]
+    fn from(got: Result<Counts, Answer>) -> Self {
+        match got {
+            Ok(counts) => Read {
+                counts,
+                ..Read::default()
             },
-        },
+            Err(answer) => Read {
+                refusal: answer.refusal,
+                place: answer.place,
+                column: answer.column,
+                counts: Counts::default(),
+            },
+        }
     }
 }
 
@@ -66,8 +57,7 @@ pub extern "C" fn peraduksi_read(
     ensures policy_after { policy.new ≡ policy_table_after (length policy.old) (reading (length forms.old) (length policy.old) (length steps.old) text.now) }
     ensures steps_after { steps.new ≡ step_table_after (length steps.old) (reading (length forms.old) (length policy.old) (length steps.old) text.now) }
 {
-    let got = reader::read_request(text, forms, policy, steps);
-    read_in(got)
+    Read::from(reader::read_request(text, forms, policy, steps))
 }
 
 #[unsafe(no_mangle)]
