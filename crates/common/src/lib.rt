@@ -149,23 +149,15 @@ pub fn step_at(formulas: u16, clauses: u16, before: u16) -> u32
 pub fn end_at(formulas: u16, clauses: u16, steps: u16) -> u32
     ensures { result ≡ end_at formulas clauses steps }
 {
-    principals_at() + 6 + formulas as u32 + clauses as u32 + steps as u32
+    step_at(formulas, clauses, steps)
 }
 
 // Lent tables of these lengths have room for the largest counts.
+#[tactic(auto, unfolding(scope::specs::Call::Tables::has_room, scope::specs::Logic::Form::both))]
 pub fn has_room(forms: usize, policy: usize, steps: usize) -> bool
     ensures { result ≡ has_room forms policy steps }
 {
-    if forms < FORM_ROOM {
-        return false;
-    }
-    if policy < POLICY_ROOM {
-        return false;
-    }
-    if steps < STEP_ROOM {
-        return false;
-    }
-    true
+    FORM_ROOM <= forms && POLICY_ROOM <= policy && STEP_ROOM <= steps
 }
 
 // `&&` as a call, so that a proof has an equation for it.
