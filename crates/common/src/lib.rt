@@ -2,9 +2,8 @@
 // of every call, and what stands at a place of a table.
 #![tactic(auto)]
 
-ghost use Rattle.std.specs.Prelude.{◌≡◌, suc, length, get_or, set, replicate};
+ghost use Rattle.std.specs.Prelude.{◌≡◌, suc, get_or, set};
 ghost use Rattle.std.proofs.lemmas.List.Edits.{sets};
-ghost use Rattle.scope.specs.Logic.Form.{both};
 ghost use Rattle.scope.specs.Call.Tables.{has_room};
 ghost use Rattle.scope.specs.Limits.{version_at, logic_at, extra_lines, principals_at, atoms_at, formulas_at, form_at, clauses_at, clause_at, goal_at, steps_at, step_at, end_at};
 
@@ -160,13 +159,6 @@ pub fn has_room(forms: usize, policy: usize, steps: usize) -> bool
     FORM_ROOM <= forms && POLICY_ROOM <= policy && STEP_ROOM <= steps
 }
 
-// `&&` as a call, so that a proof has an equation for it.
-pub fn both_of(a: bool, b: bool) -> bool
-    ensures { result ≡ both a b }
-{
-    if a { b } else { false }
-}
-
 // What stands at a place of a table; past its end, what is told.
 pub fn value_at<T: Copy>(table: &[T], at: usize, past: T) -> T
     ensures { result ≡ get_or table.now at past }
@@ -192,36 +184,4 @@ pub fn put_bytes(out: &mut [u8], at: usize, text: &[u8])
     }
     let end = text.len().min(out.len() - at);
     out[at..at + end].copy_from_slice(&text[..end]);
-}
-
-// What stands at a place of a table, 0 past its end.
-pub fn entry_at(table: &[u16], at: usize) -> u16
-    ensures { result ≡ get_or table.now at 0 }
-{
-    if at < table.len() { table[at] } else { 0 }
-}
-
-pub fn byte_at(bytes: &[u8], at: usize) -> u8
-    ensures { result ≡ get_or bytes.now at 0 }
-{
-    if at < bytes.len() { bytes[at] } else { 0 }
-}
-
-// A store past the end of a table changes nothing.
-pub fn put_entry(table: &mut [u16], at: usize, value: u16)
-    ensures { table.new ≡ set table.old at value }
-{
-    if at < table.len() {
-        table[at] = value;
-    }
-}
-
-pub fn zero_bytes(out: &mut [u8])
-    ensures { out.new ≡ replicate (length out.old) 0 }
-{
-    let mut i = 0;
-    while i < out.len() {
-        out[i] = 0;
-        i += 1;
-    }
 }

@@ -119,15 +119,3 @@ impl From<Step> for Pair {
         }
     }
 }
-
-pub fn step_of(kind: u16, number: u16) -> Step
-    ensures { result ≡ step_from kind number }
-{
-    Step::from(make_pair(kind, number))
-}
-
-pub fn pair_of(step: Step) -> Pair
-    ensures { result ≡ pair_of step }
-{
-    Pair::from(step)
-}
