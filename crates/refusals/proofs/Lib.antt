@@ -1,1 +1,2 @@
 pub mod Ands
+pub mod Known

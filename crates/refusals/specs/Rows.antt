@@ -1,34 +1,18 @@
 -- The refusals of a row, kind by kind: what each kind demands of its operands, and that a row that passes has small numbers.
 use Prim.Native.Nat.{ℕ, zero, suc, ◌≤◌, ◌<◌}
 use Rattle.std.proofs.Common.{arith, ap, sym, ◌∙◌, le-ltb, ltb-true, ltb-false, leb-true, eqb-true}
-use Rattle.std.specs.Prelude.{◌≡◌, Bool, true, false, List, Option, Some, None, ltb, leb, eqb, get_or}
+use Rattle.std.specs.Prelude.{◌≡◌, Bool, true, false, List, ltb, leb, eqb, get_or}
 use Rattle.std.proofs.Math.Path.{refl}
 use Rattle.std.proofs.lemmas.Bool.{eqb-false}
 use Rattle.scope.specs.Limits.{most_step_number}
 use Rattle.scope.specs.Logic.Form.{both}
-use Rattle.scope.specs.Tools.Tests.{both_true, both_yes, never}
+use Rattle.scope.specs.Tools.Tests.{both_true, both_yes}
 use Rattle.scope.specs.File.Request.{Row}
 use Rattle.scope.specs.File.Kinds.{kind_in, form_kinds, step_kinds}
 use Rattle.scope.specs.File.Refusals.{demand, in_range, is_earlier, pass, rest_zero, row_refusal, step_refusal}
-use Rattle.common.specs.declared.rows.FormKind.{FormKind}
-use Rattle.common.specs.declared.rows.FormKind.TheVariants as kind
-use Rattle.common.specs.Rows.{kind_of}
 
 abbrev pub row : ℕ → ℕ → ℕ → Row
 row k l r = record { kind = k; left = l; right = r }
-
--- No kind has a number from 8 on.
-pub none_known : (n : ℕ) → 8 ≤ n → None ≡ kind_of n
-unfolding kind_of
-none_known zero h = absurd (omega arith)
-none_known (suc zero) h = absurd (omega arith)
-none_known (suc (suc zero)) h = absurd (omega arith)
-none_known (suc (suc (suc zero))) h = absurd (omega arith)
-none_known (suc (suc (suc (suc zero)))) h = absurd (omega arith)
-none_known (suc (suc (suc (suc (suc zero))))) h = absurd (omega arith)
-none_known (suc (suc (suc (suc (suc (suc zero)))))) h = absurd (omega arith)
-none_known (suc (suc (suc (suc (suc (suc (suc zero))))))) h = absurd (omega arith)
-none_known (suc (suc (suc (suc (suc (suc (suc (suc n)))))))) h = refl
 
 -- A formula that a policy line or the goal names: it is below the count, and its classes pass this test. Past the table stand those of none.
 unfoldable pub class_refusal : {C : Type 0} → (C → Bool) → C → List C → ℕ → ℕ → ℕ
@@ -87,50 +71,10 @@ module _ (principals atoms i l r : ℕ) where
   unfolding row_refusal form_kinds kind_in pass rest_zero in_range is_earlier demand both
   form_7 = simp both_yes
 
-  -- What each kind demands.
-  unfoldable pub form_asked : FormKind → ℕ
-  unfolding demand both
-  form_asked kind.Atom = demands (eqb r 0) (ltb l atoms) true
-  form_asked kind.Top = demands (both (eqb l 0) (eqb r 0)) true true
-  form_asked kind.Bot = demands (both (eqb l 0) (eqb r 0)) true true
-  form_asked kind.And = demands true true (both (ltb l i) (ltb r i))
-  form_asked kind.Or = demands true true (both (ltb l i) (ltb r i))
-  form_asked kind.Imp = demands true true (both (ltb l i) (ltb r i))
-  form_asked kind.Says = demands true (ltb l principals) (ltb r i)
-  form_asked kind.Sf = demands true (both (ltb l principals) (ltb r principals)) true
-
-  form_known : (k : ℕ) (known : FormKind) → kind_of k ≡ Some known → form_refused k ≡ form_asked known
-  unfolding kind_of form_asked
-  form_known zero known e = let same : kind.Atom ≡ known = cc in form_0 ∙ ap form_asked same
-  form_known (suc zero) known e = let same : kind.Top ≡ known = cc in form_1 ∙ ap form_asked same
-  form_known (suc (suc zero)) known e = let same : kind.Bot ≡ known = cc in form_2 ∙ ap form_asked same
-  form_known (suc (suc (suc zero))) known e = let same : kind.And ≡ known = cc in form_3 ∙ ap form_asked same
-  form_known (suc (suc (suc (suc zero)))) known e = let same : kind.Or ≡ known = cc in form_4 ∙ ap form_asked same
-  form_known (suc (suc (suc (suc (suc zero))))) known e = let same : kind.Imp ≡ known = cc in form_5 ∙ ap form_asked same
-  form_known (suc (suc (suc (suc (suc (suc zero)))))) known e = let same : kind.Says ≡ known = cc in form_6 ∙ ap form_asked same
-  form_known (suc (suc (suc (suc (suc (suc (suc zero))))))) known e = let same : kind.Sf ≡ known = cc in form_7 ∙ ap form_asked same
-  form_known (suc (suc (suc (suc (suc (suc (suc (suc k)))))))) known e = never cc
-
-  -- By what the code finds a kind number to be.
-  pub form_is : {o : Option FormKind} {known is : FormKind} (k : ℕ) → o ≡ kind_of k → o ≡ Some known → known ≡ is → form_refused k ≡ form_asked is
-  form_is {known = known} k of some e = form_known k known (sym of ∙ some) ∙ ap form_asked e
-
   -- An unknown kind.
   form_over : (k : ℕ) → 8 ≤ k → form_refused k ≡ 3
   unfolding row_refusal form_kinds demand
   form_over k h = rw (le-ltb k 8 h) refl
-
-  pub form_unknown : (k : ℕ) → None ≡ kind_of k → form_refused k ≡ 3
-  unfolding kind_of
-  form_unknown zero e = never cc
-  form_unknown (suc zero) e = never cc
-  form_unknown (suc (suc zero)) e = never cc
-  form_unknown (suc (suc (suc zero))) e = never cc
-  form_unknown (suc (suc (suc (suc zero)))) e = never cc
-  form_unknown (suc (suc (suc (suc (suc zero))))) e = never cc
-  form_unknown (suc (suc (suc (suc (suc (suc zero)))))) e = never cc
-  form_unknown (suc (suc (suc (suc (suc (suc (suc zero))))))) e = never cc
-  form_unknown (suc (suc (suc (suc (suc (suc (suc (suc k)))))))) e = form_over (suc (suc (suc (suc (suc (suc (suc (suc k)))))))) (omega arith)
 
   pub form_other : (k : ℕ) → (k ≡ 0 → ⊥) → (k ≡ 1 → ⊥) → (k ≡ 2 → ⊥) → (k ≡ 3 → ⊥) → (k ≡ 4 → ⊥) → (k ≡ 5 → ⊥) → (k ≡ 6 → ⊥) → (k ≡ 7 → ⊥)
       → form_refused k ≡ 3
