@@ -115,6 +115,7 @@ fn check_past(counts: Counts, forms: &[u16], policy: &[u16], steps: &[u16]) -> R
     rows::demand(steps_rest, Refusal::Range)
 }
 
+// Of the lent tables each part takes those that it reads, and no others.
 // The counts of principals, atoms and formulas, then the formulas.
 fn check_formulas(counts: Counts, forms: &[u16]) -> Result<(), Answer>
     ensures { result ≡ met_in (form_part (lent_with counts forms.now [] [])) }

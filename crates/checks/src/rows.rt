@@ -6,6 +6,9 @@ ghost use Rattle.common.specs.Refused.{number_of, refusal_in};
 
 use common::Refusal;
 
+// The version whose text tells no logic.
+const PLAIN_ONLY: u16 = 1;
+
 #[tactic(auto, unfolding(scope::specs::File::Refusals::demand, common::specs::Refused::refusal_in))]
 pub(crate) fn demand(holds: bool, refusal: Refusal) -> Result<(), Refusal>
     ensures { refusal_in result ≡ demand holds (number_of refusal) 0 }
@@ -22,7 +25,7 @@ pub(crate) fn check_count(least: u16, most: u16, n: u16) -> Result<(), Refusal>
 pub(crate) fn check_unit(version: u16, logic: u16) -> Result<(), Refusal>
     ensures { refusal_in result ≡ unit_refusal version (logic_of logic) }
 {
-    demand(version != 1 || logic == 0, Refusal::UnitInVersion1)
+    demand(version != PLAIN_ONLY || logic == 0, Refusal::UnitInVersion1)
 }
 
 // A formula that a line names: one below the count, whose classes fit.

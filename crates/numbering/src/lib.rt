@@ -60,7 +60,7 @@ fn key_of(row: Row) -> usize
     usize::from(row.left) + usize::from(row.right) * 65536 + usize::from(row.kind) * 4294967296
 }
 
-// Where a row is among the rows that the slots keep.
+// Where a row is among the rows that the slots keep. The table is lent beside them: its owner writes rows between two calls.
 pub fn find_row(forms: &[u16], slots: &[u16; SLOTS], row: Row) -> Place
     ensures { result ≡ place_in forms.now slots.now (as_row row) }
 {

@@ -6,15 +6,15 @@ use Rattle.scope.specs.File.Refusals.{demand, unit_refusal}
 use Rattle.common.specs.Refused.{number_of}
 use Rattle.checks.specs.MetLaws.{unit_asked}
 use Rattle.checks.proofs.rows.check_unit.Goals as goal
-use Rattle.checks.proofs.rows.check_unit.Goals.{then-version-ne1, else-version-ne1}
+use Rattle.checks.proofs.rows.check_unit.Goals.{then-version-ne-PLAIN_ONLY, else-version-ne-PLAIN_ONLY}
 
 pub returns : goal.returns
 unfolding number_of unit_refusal
 returns c =
     let a = c.args in
-    let told : demand c.if-version-ne1.demand 16 0 ≡ unit_refusal a.version (logic_of a.logic) =
-    elim c.if-version-ne1.branch [
-      | then-version-ne1 w ↦ rw (w.demand-is, ne_eqb a.version 1 w.if-version-ne1.true) refl
-      | else-version-ne1 w ↦ rw w.demand-is (unit_asked a.version a.logic w.if-version-ne1.false)
+    let told : demand c.if-version-ne-PLAIN_ONLY.demand 16 0 ≡ unit_refusal a.version (logic_of a.logic) =
+    elim c.if-version-ne-PLAIN_ONLY.branch [
+      | then-version-ne-PLAIN_ONLY w ↦ rw (w.demand-is, ne_eqb a.version 1 w.if-version-ne-PLAIN_ONLY.true) refl
+      | else-version-ne-PLAIN_ONLY w ↦ rw w.demand-is (unit_asked a.version a.logic w.if-version-ne-PLAIN_ONLY.false)
     ] in
     c.demand.ensures ∙ told
