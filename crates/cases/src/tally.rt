@@ -1,27 +1,12 @@
 // What came of the lines of the index, and how many there are of each kind.
 
 // What came of a line: whether judging its file gave what it wants, and, where its file was written
-// back, whether that gave the file again.
+// back, whether that gave the file again. The flag is no part of the option: a file that is judged
+// otherwise than wanted is written back all the same.
 #[derive(Clone, Copy)]
 pub(crate) struct Ran {
     pub(crate) as_wanted: bool,
-    pub(crate) back: Option<Back>,
-}
-
-#[derive(Clone, Copy, PartialEq, Eq)]
-pub(crate) enum Back {
-    Same,
-    Changed,
-}
-
-// How many lines of the index were run, and how many of them differ; how many files were written
-// back, and how many of those changed.
-#[derive(Default, Drop)]
-pub(crate) struct Tally {
-    pub(crate) cases: usize,
-    pub(crate) differ: usize,
-    pub(crate) written: usize,
-    pub(crate) changed: usize,
+    pub(crate) back: Option<bool>,
 }
 
 impl Ran {
@@ -32,16 +17,26 @@ impl Ran {
     };
 }
 
+// How many lines of the index were run, and how many of them differ; how many files were written
+// back, and how many of those changed.
+#[derive(Default, Drop)]
+pub(crate) struct Tally {
+    pub(crate) cases: u64,
+    pub(crate) differ: u64,
+    pub(crate) written: u64,
+    pub(crate) changed: u64,
+}
+
 impl Tally {
-    pub(crate) fn of(ran: &[Ran]) -> Tally {
-        Tally {
-            cases: ran.len(),
-            differ: ran.iter().filter(|ran| !ran.as_wanted).count(),
-            written: ran.iter().filter(|ran| ran.back.is_some()).count(),
-            changed: ran
-                .iter()
-                .filter(|ran| ran.back == Some(Back::Changed))
-                .count(),
-        }
+    pub(crate) fn count(&mut self, ran: Ran) {
+        self.cases = counted(self.cases, true);
+        self.differ = counted(self.differ, !ran.as_wanted);
+        self.written = counted(self.written, ran.back.is_some());
+        self.changed = counted(self.changed, ran.back == Some(false));
     }
+}
+
+// The count, with one more where this is so.
+fn counted(count: u64, more: bool) -> u64 {
+    count.saturating_add(u64::from(more))
 }
