@@ -118,8 +118,9 @@ pub fn read_request(
     ensures policy_after { policy.new ≡ policy_table_after (length policy.old) (reading (length forms.old) (length policy.old) (length steps.old) text.now) }
     ensures steps_after { steps.new ≡ step_table_after (length steps.old) (reading (length forms.old) (length policy.old) (length steps.old) text.now) }
 {
+    let room = common::has_room(forms.len(), policy.len(), steps.len());
     clear(forms, policy, steps);
-    if !common::has_room(forms.len(), policy.len(), steps.len()) {
+    if !room {
         return Err(Answer::at(Refusal::TableTooShort, 0));
     }
     if common::MOST_BYTES < text.len() {

@@ -1,3 +1,4 @@
+-- `reader::read_body` meets its contract: each part is read from where the one before it ends, and the first refusal is the answer.
 use Rattle.std.proofs.Common.{◌≡◌, ◌<◌, length, arith}
 use Rattle.std.proofs.lemmas.Bool.Decides.{nat_tests}
 use Rattle.std.proofs.lemmas.Result.{err_from_is_err_and}

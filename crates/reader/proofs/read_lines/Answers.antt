@@ -1,3 +1,4 @@
+-- `reader::read_lines` meets its contract: the first lines tell version and logic, and what is read behind them is told with both.
 use Rattle.std.proofs.Common.{arith}
 use Rattle.std.proofs.lemmas.Result.{err_from_is_err_and}
 use Rattle.common.specs.Lines.{few_lines}

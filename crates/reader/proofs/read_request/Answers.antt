@@ -1,3 +1,4 @@
+-- `reader::read_request` meets its contract: 13, then 1, then the lines; the tables are zeroed at the start and again after a refusal.
 use Rattle.std.proofs.Common.{refl, sym, ap, ◌∙◌}
 use Rattle.common.specs.Answers.{answer_is}
 use Rattle.common.specs.Refused.{number_of}
@@ -5,11 +6,10 @@ use Rattle.reader.specs.Answers.{reading_of}
 use Rattle.reader.specs.Outcomes.{refused_reading, kept_reading, no_room, too_long, in_order_lem, forms_clear, lines_clear, steps_clear, forms_kept, lines_kept, steps_kept, zero_is, room_is}
 use Rattle.reader.proofs.read_request.Goals as goal
 
-pub returns-then-not-has_room : goal.returns-then-not-has_room
+pub returns-then-not-room : goal.returns-then-not-room
 unfolding number_of
-returns-then-not-has_room c =
-    let room = rw (c.clear.auto.forms, c.clear.auto.policy, c.clear.auto.steps) at c.has_room.ensures in
-    let o = no_room _ _ _ c.args.text.now (sym room ∙ c.if-not-has_room.true) in
+returns-then-not-room c =
+    let o = no_room _ _ _ c.args.text.now (sym c.has_room-room.ensures ∙ c.if-not-room.true) in
     record {
       value = refused_reading _ _ _ o c.at.ensures;
       forms_after = forms_clear _ _ _ _ _ c.clear.ensures.forms_zero refl o;
@@ -20,8 +20,7 @@ returns-then-not-has_room c =
 pub returns-then-text-gt-MOST_BYTES : goal.returns-then-text-gt-MOST_BYTES
 unfolding number_of
 returns-then-text-gt-MOST_BYTES c =
-    let room = rw (c.clear.auto.forms, c.clear.auto.policy, c.clear.auto.steps) at c.has_room.ensures in
-    let o = too_long _ _ _ c.args.text.now (sym room ∙ c.if-not-has_room.false) c.if-text-gt-MOST_BYTES.true in
+    let o = too_long _ _ _ c.args.text.now (sym c.has_room-room.ensures ∙ c.if-not-room.false) c.if-text-gt-MOST_BYTES.true in
     record {
       value = refused_reading _ _ _ o c.at-then-text-gt-MOST_BYTES.ensures;
       forms_after = forms_clear _ _ _ _ _ c.clear.ensures.forms_zero refl o;
@@ -31,8 +30,7 @@ returns-then-text-gt-MOST_BYTES c =
 
 pub read_lines-requires : goal.read_lines-requires
 read_lines-requires c =
-    let room = rw (c.clear.auto.forms, c.clear.auto.policy, c.clear.auto.steps) at c.has_room.ensures in
-    let r = room_is _ _ _ (sym room ∙ c.if-not-has_room.false) in
+    let r = room_is _ _ _ (sym c.has_room-room.ensures ∙ c.if-not-room.false) in
     record {
       short = c.if-text-gt-MOST_BYTES.false;
       forms_zero = zero_is _ _ _ c.clear.ensures.forms_zero r.form_room;
@@ -42,31 +40,23 @@ read_lines-requires c =
 
 pub returns-in-Ok : goal.returns-in-Ok
 returns-in-Ok c =
-    let room = rw (c.clear.auto.forms, c.clear.auto.policy, c.clear.auto.steps) at c.has_room.ensures in
-    let order = in_order_lem _ _ _ c.args.text.now (sym room ∙ c.if-not-has_room.false) c.if-text-gt-MOST_BYTES.false in
+    let order = in_order_lem _ _ _ c.args.text.now (sym c.has_room-room.ensures ∙ c.if-not-room.false) c.if-text-gt-MOST_BYTES.false in
     let k = c.in-Ok.ensures in
     let o = order ∙ k.is in
-    let f = c.read_lines.auto.forms ∙ c.clear.auto.forms in
-    let p = c.read_lines.auto.policy ∙ c.clear.auto.policy in
-    let s = c.read_lines.auto.steps ∙ c.clear.auto.steps in
     record {
       value = kept_reading _ _ _ _ _ k ∙ ap reading_of (sym order);
-      forms_after = forms_kept _ _ _ k.request f o k.forms_stored;
-      policy_after = lines_kept _ _ _ k.request p o k.policy_stored;
-      steps_after = steps_kept _ _ _ k.request s o k.steps_stored;
+      forms_after = forms_kept _ _ _ k.request (c.read_lines.auto.forms ∙ c.clear.auto.forms) o k.forms_stored;
+      policy_after = lines_kept _ _ _ k.request (c.read_lines.auto.policy ∙ c.clear.auto.policy) o k.policy_stored;
+      steps_after = steps_kept _ _ _ k.request (c.read_lines.auto.steps ∙ c.clear.auto.steps) o k.steps_stored;
     }
 
 pub returns-in-Err : goal.returns-in-Err
 returns-in-Err c =
-    let room = rw (c.clear.auto.forms, c.clear.auto.policy, c.clear.auto.steps) at c.has_room.ensures in
-    let order = in_order_lem _ _ _ c.args.text.now (sym room ∙ c.if-not-has_room.false) c.if-text-gt-MOST_BYTES.false in
+    let order = in_order_lem _ _ _ c.args.text.now (sym c.has_room-room.ensures ∙ c.if-not-room.false) c.if-text-gt-MOST_BYTES.false in
     let o = order ∙ c.in-Err.ensures in
-    let f = c.read_lines.auto.forms ∙ c.clear.auto.forms in
-    let p = c.read_lines.auto.policy ∙ c.clear.auto.policy in
-    let s = c.read_lines.auto.steps ∙ c.clear.auto.steps in
     record {
       value = refused_reading _ (answer_is c.in-Err.answer) _ o refl;
-      forms_after = forms_clear _ _ _ _ _ c.clear-in-Err.ensures.forms_zero f o;
-      policy_after = lines_clear _ _ _ _ _ c.clear-in-Err.ensures.policy_zero p o;
-      steps_after = steps_clear _ _ _ _ _ c.clear-in-Err.ensures.steps_zero s o;
+      forms_after = forms_clear _ _ _ _ _ c.clear-in-Err.ensures.forms_zero (c.read_lines.auto.forms ∙ c.clear.auto.forms) o;
+      policy_after = lines_clear _ _ _ _ _ c.clear-in-Err.ensures.policy_zero (c.read_lines.auto.policy ∙ c.clear.auto.policy) o;
+      steps_after = steps_clear _ _ _ _ _ c.clear-in-Err.ensures.steps_zero (c.read_lines.auto.steps ∙ c.clear.auto.steps) o;
     }

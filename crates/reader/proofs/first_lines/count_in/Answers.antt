@@ -1,3 +1,4 @@
+-- `reader::first_lines::count_in` meets its contract: no number is 2, a number outside the bounds 3.
 use Rattle.std.proofs.Common.{◌≤◌, sym, arith}
 use Rattle.scope.specs.File.Number.{number}
 use Rattle.scope.specs.File.Refusals.{count_refusal}

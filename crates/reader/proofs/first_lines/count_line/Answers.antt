@@ -1,3 +1,4 @@
+-- `reader::first_lines::count_line` meets its contract: the count is asked of the value of the line.
 use Rattle.std.proofs.Common.{sym, subst, ◌∙◌, ap}
 use Rattle.scope.specs.File.Number.{number}
 use Rattle.scope.specs.File.Refusals.{count_refusal}

@@ -1,3 +1,4 @@
+-- `reader::first_lines::read_head` meets its contract: each line is read from the rest behind the one before it, and the first refusal is the answer.
 use Rattle.std.proofs.lemmas.Result.{err_from_is_err_and}
 use Rattle.scope.specs.Limits.{most_formulas}
 use Rattle.reader.specs.Lines.{count_most}

@@ -1,3 +1,4 @@
+-- `reader::form_lines::form_line` meets its contract: the rest begins behind key, value and LF, for no row has an empty value.
 use Rattle.std.proofs.Common.{arith, ap, ◌∙◌}
 use Rattle.scope.specs.File.Line.{line_stop}
 use Rattle.scope.specs.File.Text.{form_line}

@@ -1,3 +1,4 @@
+-- `reader::form_lines::new_row` meets its contract: a refusal of the row stands; a row that the slots know is 15; any other is kept.
 use Rattle.std.proofs.Common.{◌≡◌, ap}
 use Rattle.std.proofs.lemmas.Result.{err_from_is_err_and}
 use Rattle.scope.specs.File.Kinds.{form_kinds, row_in}

@@ -1,3 +1,4 @@
+-- `reader::form_lines::read_forms` meets its contract: each row is stored behind those before it.
 use Rattle.std.proofs.Common.{◌*◌, arith}
 use Rattle.std.proofs.lemmas.Result.{err_from_is_err_and}
 use Rattle.scope.specs.File.Reader.{form_item}

@@ -1,3 +1,4 @@
+-- `reader::form_lines::row_in` meets its contract: out of shape is 2, and a row in shape has its own refusal; one that passes is small.
 use Rattle.std.proofs.Common.{sym, arith}
 use Rattle.std.proofs.lemmas.Result.{err_from_is_err_and}
 use Rattle.scope.specs.File.Kinds.{form_kinds, row_in}

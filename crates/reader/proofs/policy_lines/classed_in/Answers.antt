@@ -1,3 +1,4 @@
+-- `reader::policy_lines::classed_in` meets its contract: the class is asked of a number that is a formula's.
 use Rattle.std.proofs.Common.{sym, ap, ◌∙◌}
 use Rattle.std.proofs.lemmas.Result.{err_from_is_err_and}
 use Rattle.scope.specs.File.Number.{number}

@@ -1,3 +1,4 @@
+-- `reader::policy_lines::clause_line` meets its contract: the class asked of is that of policy lines.
 use Rattle.std.proofs.Common.{sym, subst, rules}
 use Rattle.scope.specs.File.Text.{clause_line}
 use Rattle.scope.specs.Limits.{clause_at}

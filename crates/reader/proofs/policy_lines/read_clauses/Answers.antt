@@ -1,3 +1,4 @@
+-- `reader::policy_lines::read_clauses` meets its contract: each line is stored behind those before it.
 use Rattle.std.proofs.Common.{arith}
 use Rattle.std.proofs.lemmas.Result.{err_from_is_err_and}
 use Rattle.scope.specs.Call.Tables.{policy_entry}

@@ -1,3 +1,4 @@
+-- `reader::policy_lines::read_policy` meets its contract: the classes of the formulas are computed once, and the lines and the goal are asked of them.
 use Rattle.std.proofs.Common.{ap, sym}
 use Rattle.std.proofs.lemmas.Result.{err_from_is_err_and}
 use Rattle.scope.specs.Limits.{most_policy_lines}

@@ -1,3 +1,4 @@
+-- `reader::step_lines::read_proof` meets its contract: the `step=` lines are read from behind the count of steps.
 use Rattle.std.proofs.Common.{sym, ◌∙◌}
 use Rattle.std.proofs.lemmas.Result.{err_from_is_err_and}
 use Rattle.scope.specs.Limits.{most_steps}

@@ -1,3 +1,4 @@
+-- `reader::step_lines::read_steps` meets its contract: each step is stored behind those before it.
 use Rattle.std.proofs.Common.{◌*◌, arith}
 use Rattle.std.proofs.lemmas.Result.{err_from_is_err_and}
 use Rattle.scope.specs.File.Reader.{step_item}

@@ -1,3 +1,4 @@
+-- `reader::step_lines::step_in` meets its contract: out of shape is 2, and a step in shape has its own refusal; one that passes is small.
 use Rattle.std.proofs.Common.{sym, ap, ◌∙◌, arith}
 use Rattle.std.proofs.lemmas.Result.{err_from_is_err_and}
 use Rattle.scope.specs.File.Line.{val}

@@ -1,3 +1,4 @@
+-- `reader::step_lines::step_line` meets its contract: the rest begins behind key, value and LF, for no step has an empty value.
 use Rattle.std.proofs.Common.{arith, ap, ◌∙◌}
 use Rattle.scope.specs.File.Refusals.{step_refusal}
 use Rattle.scope.specs.File.Line.{line_stop}

@@ -1,3 +1,4 @@
+-- `reader::version_lines::logic_line` meets its contract: a value that is no word of a logic is 2.
 use Rattle.std.proofs.Common.{arith, ap, ◌∙◌}
 use Rattle.scope.specs.File.Line.{line_stop}
 use Rattle.scope.specs.File.Text.{logic_line}

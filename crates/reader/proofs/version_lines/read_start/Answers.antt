@@ -1,3 +1,4 @@
+-- `reader::version_lines::read_start` meets its contract: a logic is read in version 2 alone.
 use Rattle.std.proofs.Common.{refl, ap}
 use Rattle.std.proofs.lemmas.Result.{err_from_is_err_and}
 use Rattle.scope.specs.Logic.Facts.{plain}
