@@ -16,6 +16,8 @@ use Rattle.common.specs.declared.Counts.{Counts}
 use Rattle.common.specs.declared.refused.Answer.{Answer as Returned}
 use Rattle.common.specs.declared.refused.Refusal.{Refusal}
 use Rattle.steps.specs.declared.Pair.{Pair}
+use Rattle.steps.specs.declared.Step.{Step}
+use Rattle.steps.specs.Steps.{pair_of}
 use Rattle.reader.specs.Sections.{Told, Counted, Formulas, PolicyRead}
 use Rattle.reader.specs.declared.parts.Start.{Start}
 use Rattle.reader.specs.declared.parts.Head.{Head}
@@ -73,8 +75,11 @@ abbrev pub same : ℕ → ℕ
 same n = n
 
 -- A step takes two of a row's three numbers.
-abbrev pub step_row : Pair → Row
-step_row p = record { kind = p.kind; left = p.number; right = 0 }
+abbrev pub pair_row : Pair → Row
+pair_row p = record { kind = p.kind; left = p.number; right = 0 }
+
+abbrev pub step_row : Step → Row
+step_row x = pair_row (pair_of x)
 
 abbrev pub head_of : Head → Counted
 head_of h = record { principals = h.principals; atoms = h.atoms; formulas = h.formulas }

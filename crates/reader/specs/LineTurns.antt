@@ -13,7 +13,7 @@ use Rattle.classes.specs.Class.{policy_in, no_class}
 use Rattle.classes.specs.declared.Class.{Class}
 use Rattle.refusals.specs.Rows.{class_refusal}
 use Rattle.steps.specs.declared.Pair.{Pair}
-use Rattle.reader.specs.Answers.{step_row}
+use Rattle.reader.specs.Answers.{pair_row}
 use Rattle.reader.specs.Sections.{classed_item}
 use Rattle.reader.specs.Stored.{line_more, step_more}
 use Rattle.reader.specs.Turns.{Turns, turn_stops, turn_more}
@@ -42,10 +42,10 @@ module _ (formulas clauses : ℕ) {n : ℕ} {text numbers s : List ℕ} {i : ℕ
   step_stops z e = turn_stops step_entry (step_item formulas clauses) n text k h z (step_is ∙ e)
 
   -- A step stands in the table as its two numbers.
-  pub step_turn : (p : Pair) (behind : List ℕ) → line step_line step_refusal (step_at formulas clauses (suc i)) s ≡ ok (step_row p) behind
+  pub step_turn : (p : Pair) (behind : List ℕ) → line step_line step_refusal (step_at formulas clauses (suc i)) s ≡ ok (pair_row p) behind
       → n ≤ most_steps → 2 * most_steps ≤ length numbers
       → Turns step_entry (step_item formulas clauses) n text (set (set numbers (2 * i) p.kind) (2 * i + 1) p.number) behind (i + 1)
   step_turn p behind e few room =
-      turn_more step_entry (step_item formulas clauses) n text k h (step_row p) behind (set (set numbers (2 * i) p.kind) (2 * i + 1) p.number)
+      turn_more step_entry (step_item formulas clauses) n text k h (pair_row p) behind (set (set numbers (2 * i) p.kind) (2 * i + 1) p.number)
       (step_is ∙ e) (simp length-set)
       (step_more (length numbers) numbers (2 * i) k.before p.kind p.number 0 k.stored (omega (arith, k.count)) (omega arith))

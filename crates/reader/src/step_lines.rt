@@ -13,10 +13,10 @@ ghost use Rattle.reader.specs.Sections.{steps_part};
 use crate::parts::Parsed;
 use common::{Answer, Refusal};
 use lines::Items;
-use steps::Pair;
+use steps::Step;
 
-// The step in the value of a `step=` line, as its two numbers in the table.
-fn step_in(value: &[u8]) -> Result<Pair, Refusal>
+// The step in the value of a `step=` line.
+fn step_in(value: &[u8]) -> Result<Step, Refusal>
     ensures { said step_row result ≡ shaped_as step_refusal (row_in step_kinds value.now) }
 {
     let Some(items) = lines::step_row(value) else {
@@ -24,13 +24,11 @@ fn step_in(value: &[u8]) -> Result<Pair, Refusal>
     };
     let Items { kind, left, right } = items;
     refusals::check_step(usize::from(kind), left, right)?;
-    Ok(Pair {
-        kind,
-        number: left as u16,
-    })
+    let number = left as u16;
+    Ok(steps::step_of(kind, number))
 }
 
-fn step_line(text: &[u8], place: u32) -> Parsed<'_, Pair>
+fn step_line(text: &[u8], place: u32) -> Parsed<'_, Step>
     ensures { Reads step_row (line step_line step_refusal place text.now) result }
 {
     let value = lines::value_of(text, b"step=");
@@ -55,8 +53,9 @@ fn read_steps<'a>(
     for i in 0..count {
         let (step, behind) = step_line(rest, common::step_at(formulas, clauses, i))?;
         let at = 2 * usize::from(i);
-        steps[at] = step.kind;
-        steps[at + 1] = step.number;
+        let pair = steps::pair_of(step);
+        steps[at] = pair.kind;
+        steps[at + 1] = pair.number;
         rest = behind;
     }
     Ok(rest)

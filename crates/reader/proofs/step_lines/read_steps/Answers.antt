@@ -4,6 +4,7 @@ use Rattle.std.proofs.lemmas.Result.{err_from_is_err_and}
 use Rattle.scope.specs.File.Reader.{step_item}
 use Rattle.scope.specs.Call.Tables.{step_entry}
 use Rattle.scope.specs.Limits.{most_steps}
+use Rattle.steps.specs.Steps.{pair_of}
 use Rattle.reader.specs.Turns.{turns_begin, turns_end}
 use Rattle.reader.specs.LineTurns.{step_stops, step_turn}
 use Rattle.reader.proofs.step_lines.read_steps.Goals as goal
@@ -18,8 +19,8 @@ returns-in_err-step c =
 
 pub loop-i-preserved : goal.loop-i-preserved
 loop-i-preserved c =
-    rw c.from-at.ensures
-    (step_turn c.args.formulas c.args.clauses c.loop-i.invariant c.loop-i-test.true c.in_ok-step.step c.in_ok-step.behind.now (rw c.step_at.ensures at c.in_ok-step.ensures)
+    rw (c.from-at.ensures, c.pair_of-pair.ensures)
+    (step_turn c.args.formulas c.args.clauses c.loop-i.invariant c.loop-i-test.true (pair_of c.in_ok-step.step) c.in_ok-step.behind.now (rw c.step_at.ensures at c.in_ok-step.ensures)
     c.requires.few (omega (arith, c.requires.zero.room)))
 
 pub returns : goal.returns

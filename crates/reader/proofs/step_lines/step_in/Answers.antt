@@ -4,6 +4,7 @@ use Rattle.std.proofs.lemmas.Result.{err_from_is_err_and}
 use Rattle.scope.specs.File.Line.{val}
 use Rattle.common.specs.Refused.{number_of, refusal_in}
 use Rattle.refusals.specs.Rows.{row, step_small}
+use Rattle.steps.specs.Steps.{pair_of, pair_back}
 use Rattle.reader.specs.Lines.{judged_none, judged_refused, judged_passed, row_none, row_some}
 use Rattle.reader.proofs.step_lines.step_in.Goals as goal
 
@@ -19,9 +20,9 @@ returns-in_err-check_step c =
     (judged_refused _ _ (row c.in-Some.items.kind c.in-Some.items.left c.in-Some.items.right) _ (row_some _ c.in-Some.items c.in-Some.ensures)
     (rw c.from.ensures at c.in_err-check_step.ensures))
 
-pub overflow_cast-result : goal.overflow_cast-result
+pub overflow_cast-number : goal.overflow_cast-number
 unfolding refusal_in
-overflow_cast-result c =
+overflow_cast-number c =
     let x = c.in-Some.items in
     let passed = rw c.from.ensures at c.in_ok-check_step.ensures in
     omega (arith, (step_small x.left x.right x.kind (sym passed)).lefts)
@@ -31,5 +32,7 @@ unfolding refusal_in
 returns c =
     let x = c.in-Some.items in
     let passed = rw c.from.ensures at c.in_ok-check_step.ensures in
-    ap (λ k. val (row x.kind x.left k)) (sym (step_small x.left x.right x.kind (sym passed)).rights) ∙
+    let small = step_small x.left x.right x.kind (sym passed) in
+    let kept = ap pair_of c.step_of.ensures ∙ pair_back x.kind x.left small.kinds small.unused in
+    (λ i. val (record { kind = (kept i).kind; left = (kept i).number; right = sym small.rights i })) ∙
     judged_passed _ _ _ (row_some _ x c.in-Some.ensures) passed
