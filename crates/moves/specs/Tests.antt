@@ -1,4 +1,4 @@
--- The laws by which `search` closes what a function answers after its tests.
+-- The laws by which the check closes what a function answers after its tests: the files of the code name them in their attributes.
 use Rattle.std.specs.Prelude.{◌≡◌, refl, Bool, true, false}
 use Rattle.std.proofs.Common.{rules, eq-eqb, ne_eqb, le-leb}
 use Rattle.std.proofs.lemmas.Bool.{lt-leb}
