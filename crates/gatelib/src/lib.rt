@@ -7,7 +7,8 @@ ghost use Rattle.gatelib.specs.Printing.{printed_of, unread_of};
 
 use common::Answer;
 
-// The refusal number, the place, the steps read (0 if reading is refused), and for refusal 2 the column.
+// The refusal number, 0 where it is granted, the place, the steps read (0 if reading is refused), and for refusal 2 the column. Laid out for
+// programs in other languages.
 #[repr(C)]
 #[derive(Clone, Copy)]
 pub struct Printed {

@@ -12,7 +12,7 @@ ghost use Rattle.scope.specs.Call.Calls.{writing, output_after};
 ghost use Rattle.checks.specs.Met.{lent_with};
 ghost use Rattle.writer.specs.Writing.{writing_of, refused_as};
 
-// The refusal, 0 where there is none, its place, and the text's length, 0 if refused.
+// The refusal, 0 where there is none, its place, and the text's length, 0 if refused. Laid out for programs in other languages.
 #[repr(C)]
 #[derive(Clone, Copy, Default)]
 pub struct Writing {

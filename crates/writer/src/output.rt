@@ -19,6 +19,7 @@ pub(crate) struct Output<'a> {
     pub(crate) at: usize,
 }
 
+// How far the place may be differs from line to line, by how long the line may get: no one bound of the type says it.
 impl Output<'_> {
     fn put_byte(&mut self, byte: u8)
         requires { self.old.at < 10000000 }
@@ -44,7 +45,7 @@ impl Output<'_> {
         ensures { Wrote self.old (digit_at place n) 1 self.new }
     {
         if place <= n {
-            self.put_byte(b'0' + (n / place % 10) as u8)
+            self.put_byte(b'0' + (n / place % 10) as u8);
         }
     }
 
@@ -56,7 +57,7 @@ impl Output<'_> {
         for place in [10000, 1000, 100, 10] {
             self.put_place(n, place);
         }
-        self.put_byte(b'0' + (n % 10) as u8)
+        self.put_byte(b'0' + (n % 10) as u8);
     }
 
     // A line whose value is a number.
@@ -100,7 +101,7 @@ impl Output<'_> {
             1 => self.put_operand(row.left),
             _ => {
                 self.put_operand(row.left);
-                self.put_operand(row.right)
+                self.put_operand(row.right);
             }
         }
     }
@@ -115,7 +116,7 @@ impl Output<'_> {
             None => {}
             Some(kind) => {
                 self.put_bytes(kind.word);
-                self.put_operands(kind.operands.len(), row)
+                self.put_operands(kind.operands.len(), row);
             }
         }
     }

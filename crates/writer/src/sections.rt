@@ -21,7 +21,7 @@ impl Output<'_> {
     {
         self.put_count(b"version=", counts.version);
         if counts.version == 2 {
-            self.put_logic(counts.logic)
+            self.put_logic(counts.logic);
         }
     }
 
@@ -31,7 +31,7 @@ impl Output<'_> {
     {
         self.put_version(counts);
         self.put_count(b"principals=", counts.principals);
-        self.put_count(b"atoms=", counts.atoms)
+        self.put_count(b"atoms=", counts.atoms);
     }
 
     fn put_formulas(&mut self, count: u16, forms: &[u16])
