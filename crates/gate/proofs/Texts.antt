@@ -1,23 +1,9 @@
 -- Laws of a text that grows at its end, which the proofs of the functions that write it cite. Assumes nothing.
-use Prim.Native.Nat.{ℕ, ◌-◌, ◌^◌, ◌≤◌, ◌<◌}
+use Prim.Native.Nat.{ℕ}
 use mathlib.Core.Path.{◌≡◌, refl, ap, subst, ◌∙◌}
 use mathlib.Core.List.{List, [], ◌∷◌, ◌++◌, append_assoc}
-use native.Mathlib.Nat.{pow-le-pow_right, le_of_suc-le-suc, lt_of_not-le}
-use native.Mathlib.Omega.{arith}
 use Rattle.io.specs.Digits.{last_digits, IsDigitCount}
 use Rattle.gate.specs.Shown.{bytes, Line, Longer, Shown}
-
--- Twenty digits hold a u64.
-too_many : (n k : ℕ) → IsDigitCount 10 1 n k → n < 2 ^ 64 → 20 < k → ⊥
-too_many n k fewest fits over =
-    let low : 10 ^ (k - 1) ≤ n = fewest.2 (omega arith) in
-    let some : 0 < 10 = omega arith in
-    let more : 20 ≤ k - 1 = omega arith in
-    let high : 10 ^ 20 ≤ 10 ^ (k - 1) = pow-le-pow_right some more in
-    omega arith
-
-pub few : (n k : ℕ) → IsDigitCount 10 1 n k → n < 2 ^ 64 → k ≤ 20
-few n k fewest fits = le_of_suc-le-suc (lt_of_not-le (too_many n k fewest fits))
 
 -- A key, then a number's digits, then LF: the text goes on with that line.
 pub line_added :

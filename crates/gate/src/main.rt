@@ -10,23 +10,18 @@ ghost use Rattle.std.specs.Counts.{IsPrefixLen};
 ghost use Rattle.gate.specs.Answered.{Answered};
 
 use std::io;
-use std::io::{Print, Read};
+use std::io::Read;
 
 fn main(rt: HostRuntime) {
     let mut room = [0u8; 128];
     let Ok(text) = answer(&mut rt.stdin(), &mut room) else {
         // A part of a request is not the request, so there is no answer to print.
-        let _ = rt
-            .stderr()
-            .write_all(b"gate: standard input cannot be read\n");
+        let _ = eprintln!(rt; "gate: standard input cannot be read");
         return;
     };
-    let written = rt.stdout().write_all(text);
-    if written.is_err() {
+    if rt.write_all(text).is_err() {
         // An answer that arrives in part, or not at all, is no answer.
-        let _ = rt
-            .stderr()
-            .write_all(b"gate: the answer cannot be written to standard output\n");
+        let _ = eprintln!(rt; "gate: the answer cannot be written to standard output");
     }
 }
 
@@ -41,7 +36,8 @@ fn answer<'a, R: Read>(from: &mut R, room: &'a mut [u8; 128]) -> io::Result<&'a 
     Ok(shown::put_printed(printed, room))
 }
 
-// Reads until the input ends or the file is full, and answers how many bytes that were. A read that fails is not the input's end.
+// Reads until the input ends or the file is full, and answers how many bytes that were. A read that fails is not the input's
+// end. A loop, since std's `read_to_end` needs a heap and its `read_exact` does not say how much it read.
 fn read_input<R: Read>(from: &mut R, file: &mut [u8]) -> io::Result<usize>
     ensures prefix_len { IfOk result (λ n. IsPrefixLen n file.new) }
     ensures consumed { IfOk result (λ n. Consumes (R.remaining from.old) (R.remaining from.new) (take n file.new)) }

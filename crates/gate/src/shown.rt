@@ -17,7 +17,8 @@ pub(crate) fn put_printed(printed: gatelib::Printed, room: &mut [u8; 128]) -> &[
     &room[..fourth]
 }
 
-// Puts a line into the text from `at` on, and answers where it ends.
+// Puts a line into the text from `at` on, and answers where it ends. By hand, since std's `write!` into lent memory promises
+// neither that a line fits nor its bytes, and a `String` needs a heap.
 fn put_line(key: &[u8], number: u64, text: &mut [u8], at: usize) -> usize
     requires { at + length key.now + 21 ≤ length text.old }
     ensures upper_bound { result ≤ at + length key.now + 21 }
