@@ -75,6 +75,15 @@ met_out a b {g} {back} {r} e f k = k ∙ sym f ∙ met_stop a b g r e f
 pub one_out : (x : Answer) (b : List Answer) {g back : Checked} {r : Returned} → g ≡ checked_of x → g ≡ Err r → back ≡ Err r → back ≡ met_in (x ∷ b)
 one_out x b {g} {back} {r} e f k = k ∙ sym f ∙ one_stop x b g r e f
 
+-- The same of the second of two, and what is left behind both.
+pub two_out : (x y : Answer) (b : List Answer) {g h back : Checked} {r : Returned} → g ≡ checked_of x → g ≡ Fine →
+    h ≡ checked_of y → h ≡ Err r → back ≡ Err r → back ≡ met_in (x ∷ y ∷ b)
+two_out x y b {g = g} e fine f out k = one_out y b f out k ∙ one_go x (y ∷ b) g e fine
+
+pub two_go : (x y : Answer) (b : List Answer) {g h k : Checked} → g ≡ checked_of x → g ≡ Fine → h ≡ checked_of y → h ≡ Fine → k ≡ met_in b →
+    k ≡ met_in (x ∷ y ∷ b)
+two_go x y b {g = g} {h = h} e fine f good last = last ∙ one_go y b h f good ∙ one_go x (y ∷ b) g e fine
+
 -- What a check of lines gave, told of the lines further down.
 pub met_down : (n : ℕ) (a : List Answer) → down_of n (met_in a) ≡ met_in (map (further_down n) a)
 unfolding met_in first_met checked_of down_of further_down
