@@ -9,6 +9,7 @@ use Rattle.scope.specs.Call.Tables.{Lent, request_of}
 use Rattle.scope.specs.Call.Checked.{checked}
 use Rattle.scope.specs.Call.Judge.{steps_answer, judge, else}
 use Rattle.common.specs.declared.refused.Answer.{Answer as Returned}
+use Rattle.common.specs.Refused.{number_of}
 use Rattle.checks.specs.Met.{checked_of}
 use Rattle.machine.specs.declared.StepRefusal.{StepRefusal}
 use Rattle.machine.specs.Machine.{ran, walked_answer}
@@ -67,6 +68,10 @@ unit_is (suc logic) =
     rw (ne_eqb (suc logic) 0 some) (unit_told (suc logic) some)
 
 -- What the code makes of the walk's answer.
+pub told_at : (r : StepRefusal) (a : Returned) → a ≡ answer_of (answer (number_of r.refusal) r.step) → a ≡ walked_to (Err r)
+unfolding walked_to
+told_at r a e = e
+
 pub walked_said : (w : Result ⊤ StepRefusal) (q : Result ⊤ Returned) (P : StepRefusal → Returned → Type 0) →
     ((r : StepRefusal) (a : Returned) → P r a → a ≡ walked_to (Err r)) → MatchResult w (λ x. q ≡ Ok x) (λ r. IsErrAnd q (P r)) →
     refusal_answer q ≡ walked_to w

@@ -5,10 +5,10 @@ ghost use Rattle.std.specs.Prelude.{◌≡◌};
 ghost use Rattle.scope.specs.Call.Judge.{judge as judge'};
 ghost use Rattle.checks.specs.Met.{lent_with};
 ghost use Rattle.common.specs.Answers.{answer_of};
-ghost use Rattle.judge.specs.Answers.{refusal_answer, walked_to};
+ghost use Rattle.judge.specs.Answers.{refusal_answer};
 
 use common::{Answer, Counts};
-use machine::{StepRefusal, walking};
+use machine::walking;
 
 // The answer where nothing is refused.
 const GRANTED: Answer = Answer {
@@ -16,14 +16,6 @@ const GRANTED: Answer = Answer {
     place: 0,
     column: 0,
 };
-
-// The place of a step that is refused is its number.
-#[tactic(auto, unfolding(crate::specs::Answers::walked_to))]
-fn refused_at(r: StepRefusal) -> Answer
-    ensures { result ≡ walked_to (Err r) }
-{
-    Answer::at(r.refusal, r.step)
-}
 
 // The first refusal, of the checks or else of the walk.
 fn judged(counts: Counts, forms: &[u16], policy: &[u16], steps: &[u16]) -> Result<(), Answer>
@@ -40,7 +32,7 @@ fn judged(counts: Counts, forms: &[u16], policy: &[u16], steps: &[u16]) -> Resul
         counts.goal,
         counts.steps,
     );
-    walked.map_err(refused_at)
+    walked.map_err(Answer::from)
 }
 
 #[tactic(auto, unfolding(crate::specs::Answers::refusal_answer))]

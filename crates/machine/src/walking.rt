@@ -1,6 +1,9 @@
 // The walk: each step is judged on the current obligation and its move written in place; the first refusal is the answer.
 ghost use Rattle.std.specs.Prelude.{◌≡◌, ◌≤◌};
 ghost use Rattle.scope.specs.Limits.{most_open};
+ghost use Rattle.scope.specs.Call.Answer.{answer};
+ghost use Rattle.common.specs.Refused.{number_of};
+ghost use Rattle.common.specs.Answers.{answer_of};
 ghost use Rattle.machine.specs.Change.{chunk_count};
 ghost use Rattle.machine.specs.Room.{Room};
 ghost use Rattle.machine.specs.Machine.{step_in, current, judged_now, moved, refusal_at, ran_from, ran};
@@ -8,7 +11,7 @@ ghost use Rattle.machine.specs.Machine.{obligation_at as obligation_at'};
 ghost use Rattle.machine.specs.Turn.{seen};
 
 use crate::{HELD, OPENED, Obligation, SAVED, StepRefusal, Walk, begin, blocks, changes};
-use common::{Refusal, put_at, value_at};
+use common::{Answer, Refusal, put_at, value_at};
 use facts::{Facts, ROWS};
 use moves::judging::Sequent;
 use moves::{Lab, Move, Phase};
@@ -23,6 +26,15 @@ const NOTHING: Obligation = Obligation {
     worlds: 0,
     clauses: 0,
 };
+
+// The place of the answer is the step's number.
+impl From<StepRefusal> for Answer {
+    ghost from_gives = { λ r a. a ≡ answer_of (answer (number_of r.refusal) r.step) };
+
+    fn from(r: StepRefusal) -> Answer {
+        Answer::at(r.refusal, r.step)
+    }
+}
 
 impl StepRefusal {
     // Steps are numbered from 0 in the table, and from 1 in the answer.
