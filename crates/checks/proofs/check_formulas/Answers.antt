@@ -19,7 +19,7 @@ returns-in_err-check_counts c =
 pub check_forms-requires : goal.check_forms-requires
 check_forms-requires c =
     let n = c.args.counts in
-    few_formulas n.principals n.atoms n.formulas (sym c.check_counts.ensures ∙ c.in_ok-check_counts.was)
+    omega (arith, few_formulas n.principals n.atoms n.formulas (sym c.check_counts.ensures ∙ c.in_ok-check_counts.was))
 
 pub returns : goal.returns
 returns c =
