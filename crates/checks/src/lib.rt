@@ -23,7 +23,7 @@ use numbering::SLOTS;
 
 mod rows;
 
-// The step `top`.
+// The step `top`, as the number that a table of steps has for it: the one step of the table made below.
 const TOP: u16 = 5;
 
 // A refusal at the place where it is met.
