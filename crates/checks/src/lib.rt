@@ -57,7 +57,7 @@ fn check_form(counts: Counts, i: u16, row: Row, earlier: Option<u16>) -> Result<
         counts.atoms,
         i,
     );
-    at_line(numbering::refusal_with(own, earlier), common::form_at(i))
+    at_line(rows::refusal_with(own, earlier), common::form_at(i))
 }
 
 fn check_forms(counts: Counts, forms: &[u16]) -> Result<(), Answer>

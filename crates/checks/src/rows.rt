@@ -1,8 +1,9 @@
 // What is asked of a count, of a logic with its version and of a formula that a line names.
 ghost use Rattle.std.specs.Prelude.{◌≡◌, ltb};
-ghost use Rattle.scope.specs.File.Refusals.{demand, count_refusal, unit_refusal};
+ghost use Rattle.scope.specs.File.Refusals.{demand, first_of, count_refusal, unit_refusal};
 ghost use Rattle.scope.specs.File.Kinds.{logic_of};
 ghost use Rattle.common.specs.Refused.{number_of, refusal_in};
+ghost use Rattle.numbering.specs.Refused.{repeat_refusal};
 
 use common::Refusal;
 
@@ -34,4 +35,15 @@ pub(crate) fn check_class(formulas: u16, f: u16, fits: bool) -> Result<(), Refus
 {
     demand(f < formulas, Refusal::Range)?;
     demand(fits, Refusal::WrongClass)
+}
+
+// The refusal of a row, and then that of its repeating an earlier one.
+pub(crate) fn refusal_with(row: Result<(), Refusal>, earlier: Option<u16>) -> Result<(), Refusal>
+    ensures { refusal_in result ≡ first_of (refusal_in row) (repeat_refusal earlier) }
+{
+    row?;
+    match earlier {
+        Some(_) => Err(Refusal::Repeated),
+        None => Ok(()),
+    }
 }

@@ -40,9 +40,7 @@ mod rows;
 pub use refused::{Answer, Refusal};
 pub use rows::{FormKind, Row, put_row, row_at};
 
-// The kinds of formulas and of steps that scope/specs/File/Kinds lists.
-pub const FORM_KINDS: usize = 8;
-
+// How many kinds of steps scope/specs/File/Kinds lists.
 pub const STEP_KINDS: usize = 18;
 
 // The room of each lent table: 3 numbers a formula, 1 a policy line, 2 a step.

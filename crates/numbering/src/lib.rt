@@ -5,15 +5,12 @@
 ghost use Rattle.std.specs.Prelude.{◌≡◌, min};
 ghost use Rattle.scope.specs.Limits.{most_formulas};
 ghost use Rattle.scope.specs.Call.Tables.{unpack, form_entry};
-ghost use Rattle.scope.specs.File.Refusals.{first_of};
-ghost use Rattle.common.specs.Refused.{refusal_in};
 ghost use Rattle.common.specs.Rows.{as_row};
 ghost use Rattle.numbering.specs.Slots.{head_of, key_of, place_in, kept_at, earlier_at, earlier_of};
 ghost use Rattle.numbering.specs.Repeats.{first_repeat};
-ghost use Rattle.numbering.specs.Refused.{repeat_refusal};
 ghost use Rattle.numbering.specs.Given.{given_at, written_at};
 
-use common::{MOST_FORMULAS, Refusal, Row};
+use common::{MOST_FORMULAS, Row};
 
 // The slots: the heads, and two under each row.
 const HEADS: usize = 1024;
@@ -102,17 +99,6 @@ pub fn enter_row(forms: &[u16], slots: &mut [u16; SLOTS], i: u16, row: Row) -> O
     let place = find_row(forms, slots, row);
     keep_row(slots, place, i);
     place.number()
-}
-
-// The refusal of a row, and then that of its repeating an earlier one.
-pub fn refusal_with(row: Result<(), Refusal>, earlier: Option<u16>) -> Result<(), Refusal>
-    ensures { refusal_in result ≡ first_of (refusal_in row) (repeat_refusal earlier) }
-{
-    row?;
-    match earlier {
-        Some(_) => Err(Refusal::Repeated),
-        None => Ok(()),
-    }
 }
 
 // The first of a table's rows that repeats an earlier one.

@@ -1,11 +1,11 @@
--- `numbering::refusal_with` meets its contract: where the row has no refusal of its own, that of repeating an earlier one is left.
+-- `checks::rows::refusal_with` meets its contract: where the row has no refusal of its own, that of repeating an earlier one is left.
 use mathlib.Core.Path.{◌≡◌, refl}
 use Rattle.std.proofs.Common.{arith}
 use Rattle.std.specs.Prelude.{Err}
 use Rattle.scope.specs.File.Refusals.{first_of}
 use Rattle.common.specs.Refused.{refusal_in, number_of}
 use Rattle.numbering.specs.Refused.{repeat_refusal, refused_first}
-use Rattle.numbering.proofs.refusal_with.Goals as goal
+use Rattle.checks.proofs.rows.refusal_with.Goals as goal
 
 pub returns-in_err-row : goal.returns-in_err-row
 returns-in_err-row c =
