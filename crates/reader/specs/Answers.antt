@@ -100,7 +100,7 @@ Gives told r a = MatchResult a (λ p. Given told r p.0 p.1.now) (λ z. r ≡ bad
 abbrev pub start_of : Told → Start
 start_of t = record { version = t.version; logic = logic_number t.logic }
 
--- A lent table that is all zero, with room for n numbers.
+-- A lent table that is all zero, with room for n numbers. It holds as a call begins and the call writes to the table, so it is no field of a struct.
 pub record Zero (n : ℕ) (t : List ℕ) : Type 0 where
   pub room : n ≤ length t
   pub zero : t ≡ replicate (length t) 0

@@ -26,6 +26,7 @@ fn row_in(value: &[u8], principals: u16, atoms: u16, formula: u16) -> Result<Row
     };
     let Items { kind, left, right } = items;
     refusals::check_form(usize::from(kind), left, right, principals, atoms, formula)?;
+    // What passes is below 65,536: `try_from` would have a refusal that never comes.
     Ok(Row {
         kind,
         left: left as u16,

@@ -13,7 +13,7 @@ ghost use Rattle.reader.specs.Answers.{reading_of, Zero, Answers};
 ghost use Rattle.reader.specs.Whole.{body_request};
 
 use common::{Answer, Counts, Refusal};
-use parts::Start;
+use parts::{Head, Policy, Start};
 
 mod first_lines;
 mod form_lines;
@@ -39,7 +39,8 @@ fn refused<F: FnOnce(&[u8]) -> usize>(refusal: Refusal, place: u32, text: &[u8],
     }
 }
 
-// The lines from `principals=` on, as version 1 counts them, then 6.
+// The lines from `principals=` on, as version 1 counts them, then 6. The tables stay three, as C lends them: each part's reader takes one of
+// them, and that of the policy reads another, so a struct of the three would only be taken apart.
 fn read_body(
     text: &[u8],
     forms: &mut [u16],
@@ -53,17 +54,24 @@ fn read_body(
 {
     let (head, rest) = form_lines::read_formulas(text, forms)?;
     let (lines, rest) = policy_lines::read_policy(rest, head, forms, policy)?;
-    let (count, rest) = step_lines::read_proof(rest, head.formulas, lines.clauses, steps)?;
+    let Head {
+        principals,
+        atoms,
+        formulas,
+        ..
+    } = head;
+    let Policy { clauses, goal } = lines;
+    let (count, rest) = step_lines::read_proof(rest, formulas, clauses, steps)?;
     if !rest.is_empty() {
-        let place = common::end_at(head.formulas, lines.clauses, count);
+        let place = common::end_at(formulas, clauses, count);
         return Err(Answer::at(Refusal::BytesAfter, place));
     }
     Ok(Counts {
-        principals: head.principals,
-        atoms: head.atoms,
-        formulas: head.formulas,
-        policy: lines.clauses,
-        goal: lines.goal,
+        principals,
+        atoms,
+        formulas,
+        policy: clauses,
+        goal,
         steps: count,
         ..Counts::default()
     })

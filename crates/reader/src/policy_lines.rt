@@ -47,6 +47,7 @@ fn classed_in<F: FnOnce(Class) -> bool>(
     }
 }
 
+// This and `goal_line` say key, class and place, and share the rest: one function of both would take all six.
 fn clause_line<'a>(text: &'a [u8], formulas: u16, classes: &[Class], clause: u16) -> Parsed<'a, u16>
     ensures { Reads same (line clause_line (class_refusal policy_in no_class classes.now formulas) (clause_at formulas clause) text.now) result }
 {

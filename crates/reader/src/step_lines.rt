@@ -13,7 +13,7 @@ ghost use Rattle.reader.specs.Sections.{steps_part};
 use crate::parts::Parsed;
 use common::{Answer, Refusal};
 use lines::Items;
-use steps::Step;
+use steps::{Pair, Step};
 
 // The step in the value of a `step=` line.
 fn step_in(value: &[u8]) -> Result<Step, Refusal>
@@ -25,7 +25,8 @@ fn step_in(value: &[u8]) -> Result<Step, Refusal>
     let Items { kind, left, right } = items;
     refusals::check_step(usize::from(kind), left, right)?;
     let number = left as u16;
-    Ok(steps::step_of(kind, number))
+    let step = Step::from(Pair { kind, number });
+    Ok(step)
 }
 
 fn step_line(text: &[u8], place: u32) -> Parsed<'_, Step>
@@ -53,7 +54,7 @@ fn read_steps<'a>(
     for i in 0..count {
         let (step, behind) = step_line(rest, common::step_at(formulas, clauses, i))?;
         let at = 2 * usize::from(i);
-        let pair = steps::pair_of(step);
+        let pair = Pair::from(step);
         steps[at] = pair.kind;
         steps[at + 1] = pair.number;
         rest = behind;

@@ -19,7 +19,7 @@ returns-in_err-step c =
 
 pub loop-i-preserved : goal.loop-i-preserved
 loop-i-preserved c =
-    rw (c.from-at.ensures, c.pair_of-pair.ensures)
+    rw (c.from-at.ensures, c.from-pair.ensures)
     (step_turn c.args.formulas c.args.clauses c.loop-i.invariant c.loop-i-test.true (pair_of c.in_ok-step.step) c.in_ok-step.behind.now (rw c.step_at.ensures at c.in_ok-step.ensures)
     c.requires.few (omega (arith, c.requires.zero.room)))
 

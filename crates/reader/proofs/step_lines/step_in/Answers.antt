@@ -33,6 +33,6 @@ returns c =
     let x = c.in-Some.items in
     let passed = rw c.from.ensures at c.in_ok-check_step.ensures in
     let small = step_small x.left x.right x.kind (sym passed) in
-    let kept = ap pair_of c.step_of.ensures ∙ pair_back x.kind x.left small.kinds small.unused in
+    let kept = ap pair_of c.from-step.ensures ∙ pair_back x.kind x.left small.kinds small.unused in
     (λ i. val (record { kind = (kept i).kind; left = (kept i).number; right = sym small.rights i })) ∙
     judged_passed _ _ _ (row_some _ x c.in-Some.ensures) passed
