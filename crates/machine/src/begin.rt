@@ -28,7 +28,7 @@ pub(crate) fn note_lines(facts: &mut Facts, forms: &[u16], lines: &[u16], count:
 {
     facts.root_rows();
     for i in (0..count).rev() {
-        note_line(facts, forms, common::value_at(lines, i as usize, 0));
+        note_line(facts, forms, common::value_at(lines, usize::from(i), 0));
     }
 }
 
@@ -39,7 +39,7 @@ pub(crate) fn first_clauses(lines: &[u16], count: u16) -> [Lab; CLAUSES]
 {
     let root = World(0);
     let mut clauses = [Lab { form: 0, at: root }; CLAUSES];
-    for i in (0..count as usize).rev() {
+    for i in (0..usize::from(count)).rev() {
         let form = common::value_at(lines, i, 0);
         common::put_at(&mut clauses, i, Lab { form, at: root });
     }

@@ -16,7 +16,7 @@ use steps::World;
 fn entry_of(place: u16, i: u16) -> usize
     ensures { result ≡ place * most_chunks + i }
 {
-    place as usize * CHUNKS + i as usize
+    usize::from(place) * CHUNKS + usize::from(i)
 }
 
 #[tactic(auto, unfolding(crate::specs::Tables::top_chunk))]
@@ -46,7 +46,7 @@ fn case_top(chunks: &mut [u16; HELD], place: u16, n: u16, f: u16, h: u16)
     requires { place < most_open }
     ensures { chunks.new ≡ case_chunks chunks.old place n f h }
 {
-    let at = place as usize * CHUNKS;
+    let at = usize::from(place) * CHUNKS;
     let i = n.saturating_sub(1);
     chunks.copy_within(at..at + CHUNKS, at + CHUNKS);
     put_chunk(chunks, place, i, h);
@@ -79,7 +79,7 @@ pub(crate) fn save_rows(
     ensures { saved.new ≡ saved_after opened more facts.now.rows o.worlds saved.old }
 {
     if opened < more {
-        let at = opened.saturating_sub(1) as usize * PRINCIPALS;
+        let at = usize::from(opened.saturating_sub(1)) * PRINCIPALS;
         let kept = facts.sf_rows(World(o.worlds.saturating_sub(1)));
         saved[at..at + PRINCIPALS].copy_from_slice(&kept);
     }
@@ -90,7 +90,7 @@ fn put_back(facts: &mut Facts, saved: &[Row; SAVED], next: Obligation, below: u1
     requires { below < places }
     ensures { facts.new.rows ≡ put_sf facts.old.rows (next.worlds - 1) (block most_principals saved.now below) }
 {
-    let at = below as usize * PRINCIPALS;
+    let at = usize::from(below) * PRINCIPALS;
     let mut kept = [0; PRINCIPALS];
     kept.copy_from_slice(&saved[at..at + PRINCIPALS]);
     facts.put_sf(World(next.worlds.saturating_sub(1)), kept);

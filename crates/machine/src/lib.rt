@@ -40,7 +40,8 @@ pub struct Change {
 }
 
 // What the walk writes in place: the facts; the clauses; and the open obligations, the last opened of which is the current one, with their
-// chunks and saved rows.
+// chunks and saved rows. These stand in tables beside each other, longer than what is open, because `State` of specs/Machine has them so, of
+// which the theorem `kept_afresh` speaks; and there is no heap.
 #[derive(Drop)]
 struct Walk {
     facts: Facts,

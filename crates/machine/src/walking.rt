@@ -43,7 +43,7 @@ impl StepRefusal {
     {
         StepRefusal {
             refusal,
-            step: i as u32 + 1,
+            step: u32::from(i) + 1,
         }
     }
 }
@@ -60,7 +60,7 @@ impl Walk {
     fn obligation_at(&self, place: u16) -> Obligation
         ensures { result ≡ obligation_at' (seen self.now) place }
     {
-        value_at(&self.obligations, place as usize, NOTHING)
+        value_at(&self.obligations, usize::from(place), NOTHING)
     }
 
     // A step judged on the current obligation.
@@ -101,9 +101,9 @@ impl Walk {
         blocks::save_rows(&mut self.saved, &self.facts, o, opened, made.opened);
         blocks::move_rows(&mut self.facts, &self.saved, unit, m, o, next, below);
         blocks::move_chunks(&mut self.chunks, m, o, place);
-        put_at(&mut self.clauses, o.clauses as usize, top);
-        put_at(&mut self.obligations, opened as usize, made.upper);
-        put_at(&mut self.obligations, place as usize, made.lower);
+        put_at(&mut self.clauses, usize::from(o.clauses), top);
+        put_at(&mut self.obligations, usize::from(opened), made.upper);
+        put_at(&mut self.obligations, usize::from(place), made.lower);
         self.opened = made.opened;
     }
 

@@ -20,7 +20,7 @@ returns c =
       kept = c.save_rows.ensures;
       facts = rw below at c.move_rows.ensures;
       held = rw place at c.move_chunks.ensures;
-      clause = ap forms_of c.put_at.ensures ∙ map-set (λ (l : Lab). l.form) _ _ _;
-      world = rw c.goal.ensures at (ap ats_of c.put_at.ensures ∙ map-set (λ (l : Lab). l.at.0) _ _ _);
-      opens = rw (c.put_at-2.ensures, place) at c.put_at-3.ensures;
+      clause = rw c.from.ensures at (ap forms_of c.put_at.ensures ∙ map-set (λ (l : Lab). l.form) _ _ _);
+      world = rw (c.from.ensures, c.goal.ensures) at (ap ats_of c.put_at.ensures ∙ map-set (λ (l : Lab). l.at.0) _ _ _);
+      opens = rw (c.put_at-2.ensures, c.from-2.ensures, c.from-3.ensures, place) at c.put_at-3.ensures;
     })

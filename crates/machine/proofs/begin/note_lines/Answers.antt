@@ -6,7 +6,7 @@ use Rattle.machine.proofs.begin.note_lines.Goals as goal
 pub loop-i-preserved : goal.loop-i-preserved
 loop-i-preserved c =
     let some : 0 < c.loop-i.i = omega arith in
-    line_noted_lem _ _ _ _ _ _ some c.value_at.ensures c.note_line.ensures ∙ c.loop-i.invariant
+    line_noted_lem _ _ _ _ _ _ some (rw c.from.ensures at c.value_at.ensures) c.note_line.ensures ∙ c.loop-i.invariant
 
 pub returns : goal.returns
 returns c =

@@ -9,7 +9,8 @@ pub returns : goal.returns
 unfolding case_chunks
 returns c =
     let a = c.args in
-    let long : (a.place + 1) * most_chunks + most_chunks ≤ length a.chunks.now = omega arith in
+    let at = c.from-at.result in
+    let long : (at + 1) * most_chunks + most_chunks ≤ length a.chunks.now = omega arith in
     let copy : c.copy_within.new.self ≡ put_block most_chunks a.chunks.now (a.place + 1) (block most_chunks a.chunks.now a.place) =
-    c.copy_within.ensures.after ∙ copied_is most_chunks a.chunks.now a.place long in
+    rw c.from-at.ensures at (c.copy_within.ensures.after ∙ copied_is most_chunks a.chunks.now at long) in
     rw (c.put_chunk.ensures, copy, c.saturating_sub-i.ensures) at c.put_chunk-2.ensures

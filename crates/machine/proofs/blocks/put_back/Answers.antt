@@ -7,7 +7,8 @@ use Rattle.machine.proofs.blocks.put_back.Goals as goal
 
 pub returns : goal.returns
 returns c =
-    let long : c.args.below * most_principals + most_principals ≤ length c.args.saved.now = omega arith in
+    let at = c.from-at.result in
+    let long : at * most_principals + most_principals ≤ length c.args.saved.now = omega arith in
     let read : c.copy_from_slice.new.self ≡ block most_principals c.args.saved.now c.args.below =
-    c.copy_from_slice.ensures.after ∙ read_is most_principals c.args.saved.now c.args.below long in
+    rw c.from-at.ensures at (c.copy_from_slice.ensures.after ∙ read_is most_principals c.args.saved.now at long) in
     rw (read, c.saturating_sub.ensures) at c.put_sf.ensures

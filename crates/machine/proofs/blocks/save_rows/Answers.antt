@@ -13,7 +13,7 @@ pub returns-then-opened-more : goal.returns-then-opened-more
 unfolding saved_after
 returns-then-opened-more c =
     let a = c.args in
-    let place = c.saturating_sub.result in
+    let place = c.from-at.result in
     let kept = c.sf_rows-kept.result in
     let long : place * most_principals + most_principals ≤ length a.saved.now = omega arith in
     let size : length kept ≡ most_principals = rw c.sf_rows-kept.ensures (sf_length a.facts.now.rows c.saturating_sub-then-opened-more.result) in
