@@ -40,9 +40,6 @@ mod rows;
 pub use refused::{Answer, Refusal};
 pub use rows::{FormKind, Row, put_row, row_at};
 
-// How many kinds of steps scope/specs/File/Kinds lists.
-pub const STEP_KINDS: usize = 18;
-
 // The room of each lent table: 3 numbers a formula, 1 a policy line, 2 a step.
 pub const FORM_ROOM: usize = 3 * (MOST_FORMULAS as usize);
 
