@@ -1,5 +1,5 @@
 -- What the answers of the code say of the text that was read.
-use Rattle.std.specs.Prelude.{ℕ, suc, ◌*◌, ◌≤◌, ◌≡◌, refl, List, length, replicate, Result, Ok, Err, MatchResult}
+use Rattle.std.specs.Prelude.{ℕ, ◌≤◌, ◌≡◌, refl, List, length, replicate, Result, Ok, Err, MatchResult}
 use Rattle.std.specs.Borrow.{Bor}
 use Rattle.scope.specs.Call.Result.{result, refused, result_answer}
 use Rattle.scope.specs.Logic.Facts.{Logic, plain, unit}

@@ -5,10 +5,10 @@ use Rattle.std.proofs.Math.Path.{ap}
 use Rattle.scope.specs.Logic.Form.{negate}
 use Rattle.scope.specs.Call.Answer.{Answer}
 use Rattle.scope.specs.File.Request.{Row}
-use Rattle.scope.specs.File.Line.{ok, bad, line, shaped_as, many}
+use Rattle.scope.specs.File.Line.{ok, bad, line, many}
 use Rattle.scope.specs.File.Text.{form_line}
 use Rattle.scope.specs.Call.Tables.{unpack, form_entry, table}
-use Rattle.scope.specs.File.Kinds.{form_kinds, row_in}
+use Rattle.scope.specs.File.Kinds.{form_kinds}
 use Rattle.scope.specs.Limits.{most_formulas, form_at}
 use Rattle.scope.specs.File.Refusals.{demand, row_refusal, is_among, first_of, form_refusal}
 use Rattle.scope.specs.File.Reader.{form_item}
@@ -20,7 +20,7 @@ use Rattle.numbering.specs.Refused.{repeat_told, neither_refused}
 use Rattle.numbering.proofs.Refused.{fresh_kept}
 use Rattle.reader.specs.Answers.{Zero}
 use Rattle.reader.specs.Lines.{no_form, line_passed}
-use Rattle.reader.specs.NewRows.{asked_row, slots_with, shaped_same}
+use Rattle.reader.specs.NewRows.{asked_row, slots_with}
 use Rattle.reader.specs.Stored.{form_more, unpack_table}
 use Rattle.reader.specs.Turns.{Turns, turns_begin, turn_stops, turn_more}
 

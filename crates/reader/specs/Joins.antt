@@ -1,6 +1,6 @@
 -- Sections from the lines and loops that they consist of.
 use Rattle.std.specs.Prelude.{ℕ, ◌≤◌, ◌≡◌, List, [], Bool, length, get_or}
-use Rattle.std.proofs.Common.{arith, sym, ◌∙◌, ltb-true}
+use Rattle.std.proofs.Common.{sym, ltb-true}
 use Rattle.std.proofs.Math.Path.{refl, ap}
 use Rattle.std.proofs.Math.Bool.{true, false}
 use Rattle.std.proofs.Math.Dec.{ltb}
@@ -16,7 +16,7 @@ use Rattle.classes.specs.Class.{goal_in, policy_in, no_class, class_table}
 use Rattle.classes.specs.Rows.{unpack_length}
 use Rattle.classes.specs.Laws.{goal_at_lem, policy_at}
 use Rattle.refusals.specs.Rows.{class_refusal}
-use Rattle.reader.specs.Sections.{Counted, Formulas, PolicyRead, head_part, formulas_part, policy_part, steps_part, classed_item}
+use Rattle.reader.specs.Sections.{Counted, head_part, formulas_part, policy_part, steps_part, classed_item}
 
 -- The three counts.
 module _ (s : List ℕ) where

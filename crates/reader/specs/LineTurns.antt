@@ -1,5 +1,5 @@
 -- One turn over `clause=` lines, and one over `step=` lines.
-use Rattle.std.specs.Prelude.{ℕ, suc, ◌+◌, ◌*◌, ◌≤◌, ◌<◌, ◌≡◌, List, [], ◌∷◌, length, set}
+use Rattle.std.specs.Prelude.{ℕ, suc, ◌+◌, ◌*◌, ◌≤◌, ◌<◌, ◌≡◌, List, [], length, set}
 use Rattle.std.proofs.Common.{arith, sym, ◌∙◌, length-set}
 use Rattle.std.proofs.Math.Path.{ap}
 use Rattle.scope.specs.Call.Answer.{Answer}

@@ -4,10 +4,9 @@ use Rattle.std.proofs.Common.{arith, ◌∙◌, leb-true, le-leb, lt-ltb, le-ltb
 use Rattle.std.proofs.Math.Path.{refl, ap, sym}
 use Rattle.std.proofs.Math.Bool.{true, false}
 use Rattle.std.proofs.Math.Option.{Option, none, some}
-use Rattle.std.proofs.lemmas.Bool.{lt-leb}
 use Rattle.scope.specs.Tools.Tests.{never}
 use Rattle.scope.specs.Logic.Form.{both}
-use Rattle.scope.specs.Logic.Facts.{Logic, plain, unit}
+use Rattle.scope.specs.Logic.Facts.{Logic}
 use Rattle.scope.specs.File.Request.{Row}
 use Rattle.scope.specs.File.Number.{number}
 use Rattle.scope.specs.Call.Answer.{told, column_for}

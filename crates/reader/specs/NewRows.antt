@@ -1,6 +1,6 @@
 -- A `form=` line by its row and by the slots that keep the rows before it: the row's own refusal, then 15.
 use Prim.Native.Nat.{ℕ, zero, suc}
-use Rattle.std.specs.Prelude.{◌≡◌, refl, List, Result, Ok, Err}
+use Rattle.std.specs.Prelude.{◌≡◌, refl, List}
 use Rattle.std.proofs.Math.Path.{ap}
 use Rattle.std.proofs.Common.{sym, ◌∙◌}
 use Rattle.std.proofs.Math.Option.{Option, none, some}
@@ -10,7 +10,6 @@ use Rattle.scope.specs.File.Line.{val, out, or_refused, shaped_as}
 use Rattle.scope.specs.File.Kinds.{form_kinds}
 use Rattle.scope.specs.File.Refusals.{row_refusal, first_of}
 use Rattle.common.specs.Rows.{as_row}
-use Rattle.common.specs.declared.refused.Refusal.{Refusal}
 use Rattle.common.specs.declared.rows.Row.{Row as Held}
 use Rattle.numbering.specs.Slots.{place_in, kept_at, earlier_at}
 use Rattle.numbering.specs.Refused.{repeat_refusal}

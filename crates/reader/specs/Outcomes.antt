@@ -18,7 +18,7 @@ use Rattle.reader.specs.Sections.{Counted, Formulas, PolicyRead, formulas_part, 
 use Rattle.common.specs.Answers.{answer_of}
 use Rattle.common.specs.declared.Counts.{Counts}
 use Rattle.common.specs.declared.refused.Answer.{Answer as Returned}
-use Rattle.reader.specs.Answers.{counts_of, reading_of, PartKept, formulas_of, forms_of, policy_of, lines_of, count_of, rows_of, Zero, Kept}
+use Rattle.reader.specs.Answers.{reading_of, PartKept, formulas_of, forms_of, policy_of, lines_of, count_of, rows_of, Zero, Kept}
 use Rattle.reader.specs.Stored.{table_none, unpack_table}
 use Rattle.reader.specs.declared.parts.Head.{Head}
 use Rattle.reader.specs.declared.parts.Policy.{Policy}

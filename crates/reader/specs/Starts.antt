@@ -9,7 +9,7 @@ use Rattle.scope.specs.File.Request.{Request}
 use Rattle.scope.specs.File.Line.{Read, ok, bad, line, and_then, ◌>>=◌}
 use Rattle.scope.specs.File.Refusals.{version_refusal}
 use Rattle.scope.specs.File.Text.{version_line, logic_line}
-use Rattle.scope.specs.File.Reader.{Outcome, body_lines, read_logic, read_request}
+use Rattle.scope.specs.File.Reader.{body_lines, read_logic, read_request}
 use Rattle.scope.specs.Limits.{most_bytes, version_at, logic_at, extra_lines, end_at}
 use Rattle.scope.specs.Tools.Tests.{never}
 use Rattle.trip.specs.LinePlaces.{lfs, lfs_within}

@@ -1,5 +1,5 @@
 -- `reader::refused` meets its contract: the stop is asked for of a line out of shape alone.
-use Rattle.std.proofs.Common.{◌≡◌, ◌<◌, suc, refl, ap, arith, ◌∙◌, add-one}
+use Rattle.std.proofs.Common.{suc, refl, ap, arith, ◌∙◌, add-one}
 use Rattle.common.specs.Answers.{answer_of}
 use Rattle.common.specs.Refused.{number_of}
 use Rattle.scope.specs.Call.Answer.{told}

@@ -1,6 +1,5 @@
 -- `reader::first_lines::count_line` meets its contract: the count is asked of the value of the line.
-use Rattle.std.proofs.Common.{sym, subst, ◌∙◌, ap}
-use Rattle.scope.specs.File.Number.{number}
+use Rattle.std.proofs.Common.{sym, subst}
 use Rattle.scope.specs.File.Refusals.{count_refusal}
 use Rattle.columns.specs.Shapes.{number_with}
 use Rattle.reader.specs.Answers.{same, Reads}

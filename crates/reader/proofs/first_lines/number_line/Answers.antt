@@ -1,5 +1,5 @@
 -- `reader::first_lines::number_line` meets its contract, case by case.
-use Rattle.std.proofs.Common.{◌≡◌, sym, ap, ◌∙◌, rules, arith}
+use Rattle.std.proofs.Common.{◌≡◌, sym, ap, rules, arith}
 use Rattle.scope.specs.File.Line.{ok, placed, line_stop}
 use Rattle.columns.specs.Shapes.{number_with}
 use Rattle.columns.specs.Small.{number_line_small}

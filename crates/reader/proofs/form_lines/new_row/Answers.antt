@@ -1,13 +1,9 @@
 -- `reader::form_lines::new_row` meets its contract: a refusal of the row stands; a row that the slots know is 15; any other is kept.
-use Rattle.std.proofs.Common.{◌≡◌, ap}
 use Rattle.std.proofs.lemmas.Result.{err_from_is_err_and}
 use Rattle.scope.specs.File.Kinds.{form_kinds, row_in}
 use Rattle.scope.specs.File.Line.{or_refused}
 use Rattle.scope.specs.File.Refusals.{row_refusal}
-use Rattle.scope.specs.File.Request.{Row}
 use Rattle.common.specs.Refused.{number_of}
-use Rattle.common.specs.Rows.{as_row}
-use Rattle.numbering.specs.Slots.{place_in, earlier_at}
 use Rattle.numbering.specs.Refused.{repeat_refusal}
 use Rattle.reader.specs.NewRows.{again, first_out, first_val}
 use Rattle.reader.proofs.form_lines.new_row.Goals as goal

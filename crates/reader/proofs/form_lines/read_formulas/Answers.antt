@@ -1,5 +1,5 @@
 -- `reader::form_lines::read_formulas` meets its contract: the `form=` lines are read from where the three counts end.
-use Rattle.std.proofs.Common.{ap, sym}
+use Rattle.std.proofs.Common.{sym}
 use Rattle.std.proofs.lemmas.Result.{err_from_is_err_and}
 use Rattle.reader.specs.Joins.{formulas_at_head, formulas_at_forms, formulas_whole}
 use Rattle.reader.proofs.form_lines.read_formulas.Goals as goal

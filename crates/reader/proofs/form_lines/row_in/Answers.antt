@@ -1,8 +1,6 @@
 -- `reader::form_lines::row_in` meets its contract: out of shape is 2, and a row in shape has its own refusal; one that passes is small.
 use Rattle.std.proofs.Common.{sym, arith}
 use Rattle.std.proofs.lemmas.Result.{err_from_is_err_and}
-use Rattle.scope.specs.File.Kinds.{form_kinds, row_in}
-use Rattle.scope.specs.File.Refusals.{row_refusal}
 use Rattle.common.specs.Refused.{number_of, refusal_in}
 use Rattle.refusals.specs.Rows.{row, form_small}
 use Rattle.reader.specs.Lines.{judged_none, judged_refused, judged_passed, row_none, row_some}

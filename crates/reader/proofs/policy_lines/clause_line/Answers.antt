@@ -1,7 +1,6 @@
 -- `reader::policy_lines::clause_line` meets its contract: the class asked of is that of policy lines.
 use Rattle.std.proofs.Common.{sym, subst, rules}
 use Rattle.scope.specs.File.Text.{clause_line}
-use Rattle.scope.specs.Limits.{clause_at}
 use Rattle.classes.specs.Class.{policy_in, no_class}
 use Rattle.refusals.specs.Rows.{class_refusal}
 use Rattle.reader.specs.Answers.{same, Reads}

@@ -1,5 +1,5 @@
 -- `reader::policy_lines::formula_in` meets its contract: no number is 2, a number not below the count of formulas 3.
-use Rattle.std.proofs.Common.{sym, ◌∙◌}
+use Rattle.std.proofs.Common.{sym}
 use Rattle.scope.specs.File.Number.{number}
 use Rattle.common.specs.Refused.{number_of}
 use Rattle.lines.specs.Answers.{number_some, number_none}

@@ -1,7 +1,6 @@
 -- `reader::policy_lines::goal_line` meets its contract: the class asked of is that of the goal.
 use Rattle.std.proofs.Common.{sym, subst, rules}
 use Rattle.scope.specs.File.Text.{goal_line}
-use Rattle.scope.specs.Limits.{goal_at}
 use Rattle.classes.specs.Class.{goal_in, no_class}
 use Rattle.refusals.specs.Rows.{class_refusal}
 use Rattle.reader.specs.Answers.{same, Reads}
