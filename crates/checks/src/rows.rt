@@ -23,6 +23,7 @@ pub(crate) fn check_count(least: u16, most: u16, n: u16) -> Result<(), Refusal>
     demand((least..=most).contains(&n), Refusal::Range)
 }
 
+// A call tells the logic by a number, as other languages do.
 pub(crate) fn check_unit(version: u16, logic: u16) -> Result<(), Refusal>
     ensures { refusal_in result ≡ unit_refusal version (logic_of logic) }
 {

@@ -18,7 +18,7 @@ pub enum FormKind {
 }
 
 impl FormKind {
-    // The kind of a number; none where no kind has it.
+    // The kind of a number, as lent tables have it for every language; none where no kind has it.
     #[tactic(auto, unfolding(crate::specs::Rows::kind_of))]
     pub fn of(number: u16) -> Option<Self>
         ensures { result ≡ kind_of number }

@@ -10,7 +10,7 @@ ghost use Rattle.judge.specs.Answers.{refusal_answer};
 use common::{Answer, Counts};
 use machine::walking;
 
-// The answer where nothing is refused.
+// The answer where nothing is refused, as other languages see it.
 const GRANTED: Answer = Answer {
     refusal: 0,
     place: 0,
@@ -22,6 +22,7 @@ fn judged(counts: Counts, forms: &[u16], policy: &[u16], steps: &[u16]) -> Resul
     ensures { refusal_answer result ≡ answer_of (judge' (lent_with counts forms.now policy.now steps.now)) }
 {
     checks::check_tables(counts, forms, policy, steps)?;
+    // A call tells the logic by a number, as other languages do: any but 0 is unit.
     let unit = counts.logic != 0;
     let walked = walking::walk_steps(
         forms,

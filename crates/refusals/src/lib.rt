@@ -85,7 +85,7 @@ fn check_row(
     }
 }
 
-// The refusal of formula number `formula`.
+// The refusal of formula number `formula`. Its numbers stand apart, for those of a line may be larger than those of a table's row.
 pub fn check_form(
     kind: usize,
     left: u32,

@@ -61,7 +61,8 @@ pub fn pair_at(steps: &[u16], i: u16) -> Pair
     make_pair(kind, number)
 }
 
-// The step of a kind number and the number beside it: a number that no kind has stands for the last one.
+// The step of a kind number and the number beside it, as lent tables have them for every language: a number that no kind has stands for the
+// last one.
 impl From<Pair> for Step {
     ghost from_gives = { λ p step. step ≡ step_from p.kind p.number };
 
