@@ -135,7 +135,8 @@ impl Walk {
     }
 }
 
-// The answer about the steps, in the logic unit or plain, for any tables and counts: count policy lines, total steps.
+// The answer about the steps, in the logic unit or plain, for any tables and counts: count policy lines, total steps. The counts come beside
+// the tables, since a lent table may be longer or shorter than its count: `ran` says what is read then.
 pub fn walk_steps(
     forms: &[u16],
     lines: &[u16],
