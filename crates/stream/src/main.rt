@@ -14,6 +14,7 @@ use std::io;
 use std::io::{ErrorKind, Read};
 
 const LONGEST_FRAME: usize = 70_000;
+
 const MOST_KEPT: usize = 65_537;
 
 // Reads a frame; an error where the input ends before it does, or the room is too small for it.
