@@ -165,7 +165,8 @@ fn check_body(counts: Counts, forms: &[u16], policy: &[u16], steps: &[u16]) -> R
     ensures { result ≡ met_in (body_answers (request_of (lent_with counts forms.now policy.now steps.now))) }
 {
     check_formulas(counts, forms)?;
-    let classes = classes::classes_of(forms, counts.formulas);
+    let mut classes = [Class::NONE; classes::FORMULAS];
+    classes::classes_of(forms, counts.formulas, &mut classes);
     check_policy(counts, &classes, policy)?;
     check_proof(counts, &classes, steps)
 }

@@ -109,10 +109,11 @@ fn row_class(row: Row, left: Class, right: Class) -> Class
     }
 }
 
-pub fn classes_of(forms: &[u16], formulas: u16) -> [Class; FORMULAS]
-    ensures { result ≡ class_table forms.now formulas }
+// The table is lent: it stands on the stack of a call once.
+pub fn classes_of(forms: &[u16], formulas: u16, classes: &mut [Class; FORMULAS])
+    ensures { classes.new ≡ class_table forms.now formulas }
 {
-    let mut classes = [Class::NONE; FORMULAS];
+    classes.fill(Class::NONE);
     for i in 0..formulas.min(MOST_FORMULAS) {
         let row = row_at(forms, i);
         let before = &classes[..usize::from(i)];
@@ -120,5 +121,4 @@ pub fn classes_of(forms: &[u16], formulas: u16) -> [Class; FORMULAS]
         let right = value_at(before, usize::from(row.right), Class::ALL);
         classes[usize::from(i)] = row_class(row, left, right);
     }
-    classes
 }

@@ -96,7 +96,8 @@ pub(crate) fn read_policy<'a>(
     let formulas = head.formulas;
     let most = common::MOST_POLICY_LINES;
     let (clauses, rest) = count_line(text, b"clauses=", 0, most, common::clauses_at(formulas))?;
-    let classes = classes::classes_of(forms, formulas);
+    let mut classes = [Class::NONE; classes::FORMULAS];
+    classes::classes_of(forms, formulas, &mut classes);
     let rest = read_clauses(rest, formulas, &classes, clauses, policy)?;
     let (goal, rest) = goal_line(rest, formulas, &classes, clauses)?;
     Ok((Policy { clauses, goal }, rest))

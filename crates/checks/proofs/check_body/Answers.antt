@@ -27,7 +27,7 @@ returns-in_err-check_policy c =
     let classes : List Class = class_table a.forms.now a.counts.formulas in
     let fine : met_in (line_part lent classes ++ step_part lent classes) ≡ met_in (body_part lent) =
     after_forms lent c.check_formulas.result c.check_formulas.ensures c.in_ok-check_formulas.was in
-    let policy : c.check_policy.result ≡ met_in (line_part lent classes) = rw c.classes_of-classes.ensures at c.check_policy.ensures in
+    let policy : c.check_policy.result ≡ met_in (line_part lent classes) = rw c.classes_of.ensures at c.check_policy.ensures in
     let back : c.from_residual-in_err-check_policy.result ≡ Err c.in_err-check_policy.field-0.0 = grind arith in
     met_out (line_part lent classes) (step_part lent classes) policy c.in_err-check_policy.was back ∙
     fine
@@ -39,8 +39,8 @@ returns c =
     let classes : List Class = class_table a.forms.now a.counts.formulas in
     let fine : met_in (line_part lent classes ++ step_part lent classes) ≡ met_in (body_part lent) =
     after_forms lent c.check_formulas.result c.check_formulas.ensures c.in_ok-check_formulas.was in
-    let policy : c.check_policy.result ≡ met_in (line_part lent classes) = rw c.classes_of-classes.ensures at c.check_policy.ensures in
-    let proof : c.check_proof.result ≡ met_in (step_part lent classes) = rw c.classes_of-classes.ensures at c.check_proof.ensures in
+    let policy : c.check_policy.result ≡ met_in (line_part lent classes) = rw c.classes_of.ensures at c.check_policy.ensures in
+    let proof : c.check_proof.result ≡ met_in (step_part lent classes) = rw c.classes_of.ensures at c.check_proof.ensures in
     proof ∙
     met_go (line_part lent classes) (step_part lent classes) c.check_policy.result policy c.in_ok-check_policy.was ∙
     fine

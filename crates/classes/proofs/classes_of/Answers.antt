@@ -1,11 +1,16 @@
-use Rattle.std.proofs.Common.{arith, ◌≡◌, ◌+◌, ◌*◌, get_or, take}
+use Rattle.std.proofs.Common.{arith, ◌≡◌, ◌+◌, ◌*◌, get_or, take, length, replicate}
+use Rattle.scope.specs.Limits.{most_formulas}
 use Rattle.common.specs.Rows.{row_at}
-use Rattle.classes.specs.Class.{all_classes}
+use Rattle.classes.specs.Class.{no_class, all_classes}
 use Rattle.classes.proofs.Filling.{filled_none, filled_more, filled_whole}
 use Rattle.classes.proofs.classes_of.Goals as goal
 
 pub loop-i-init : goal.loop-i-init
-loop-i-init c = filled_none c.args.forms.now c.min-i-end.result
+loop-i-init c =
+    let t = c.args.forms.now in
+    let size : length c.args.classes.now ≡ most_formulas = c.told-classes in
+    let zero : c.fill.new.self ≡ replicate (length c.args.classes.now) no_class = c.fill.ensures.after (λ y e. e) in
+    rw (zero, size) (filled_none t c.min-i-end.result)
 
 pub loop-i-preserved : goal.loop-i-preserved
 unfolding row_at

@@ -19,26 +19,26 @@ returns-in_err-rest c =
     let out = err_from_is_err_and c.from_residual-in_err-rest.result c.from_residual-in_err-rest.ensures.1 in
     let n = rw c.clauses_at.ensures at c.in_ok-clauses.ensures in
     rw (out.1, out.2)
-    (policy_at_clauses c.args.forms.now c.args.head.formulas c.args.head.few c.args.text.now _ _ n _ (rw c.classes_of-classes.ensures at c.in_err-rest.ensures))
+    (policy_at_clauses c.args.forms.now c.args.head.formulas c.args.head.few c.args.text.now _ _ n _ (rw c.classes_of.ensures at c.in_err-rest.ensures))
 
 pub returns-in_err-goal : goal.returns-in_err-goal
 returns-in_err-goal c =
     let out = err_from_is_err_and c.from_residual-in_err-goal.result c.from_residual-in_err-goal.ensures.1 in
     let n = rw c.clauses_at.ensures at c.in_ok-clauses.ensures in
-    let lines = rw c.classes_of-classes.ensures at c.in_ok-rest.ensures in
+    let lines = rw c.classes_of.ensures at c.in_ok-rest.ensures in
     rw (out.1, out.2)
     (policy_at_goal c.args.forms.now c.args.head.formulas c.args.head.few c.args.text.now _ _ n lines.things _ lines.is lines.count _
-    (rw c.classes_of-classes.ensures at c.in_err-goal.ensures))
+    (rw c.classes_of.ensures at c.in_err-goal.ensures))
 
 pub returns : goal.returns
 returns c =
     let n = rw c.clauses_at.ensures at c.in_ok-clauses.ensures in
-    let lines = rw c.classes_of-classes.ensures at c.in_ok-rest.ensures in
+    let lines = rw c.classes_of.ensures at c.in_ok-rest.ensures in
     record {
       thing = record { policy = lines.things; goal = c.in_ok-goal.goal };
       is =
           policy_whole c.args.forms.now c.args.head.formulas c.args.head.few c.args.text.now _ _ n lines.things _ lines.is lines.count _ _
-          (rw c.classes_of-classes.ensures at c.in_ok-goal.ensures);
+          (rw c.classes_of.ensures at c.in_ok-goal.ensures);
       seen = ap (λ k. record { clauses = k; goal = c.in_ok-goal.goal }) (sym lines.count);
       stored = lines.stored;
     }
