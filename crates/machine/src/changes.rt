@@ -1,7 +1,7 @@
 // What a move makes of the current obligation.
-ghost use Rattle.std.specs.Prelude.{◌≡◌, ◌-◌, ◌<◌};
-ghost use Rattle.scope.specs.Limits.{most_worlds, most_open};
-ghost use Rattle.machine.specs.Change.{lab_at, chunk_count, goal_in, behind, aimed, with_phase, popped, new_world, alone, fork, change_of};
+ghost use Rattle.std.specs.Prelude.{◌≡◌, ◌+◌, ◌-◌, ◌<◌};
+ghost use Rattle.scope.specs.Limits.{most_worlds, most_clauses, most_open};
+ghost use Rattle.machine.specs.Change.{lab_at, chunk_count, goal_in, behind, aimed, with_phase, with_clauses, popped, new_world, alone, fork, change_of};
 ghost use Rattle.machine.specs.Room.{Room};
 
 use crate::{Change, Obligation};
@@ -78,6 +78,17 @@ impl Obligation {
         self.with_chunks(self.top_place())
     }
 
+    // The topmost chunk is a clause.
+    fn pushed(self) -> Obligation
+        requires { self.clauses < most_clauses }
+        ensures { result ≡ with_clauses (popped self) (self.clauses + 1) }
+    {
+        Obligation {
+            clauses: self.clauses + 1,
+            ..self.popped()
+        }
+    }
+
     #[tactic(auto, unfolding(crate::specs::Change::new_world))]
     fn in_new_world(self, phase: Phase) -> Obligation
         requires { self.worlds < most_worlds }
@@ -142,16 +153,7 @@ pub(crate) fn change_of(m: Move, o: Obligation, opened: u16) -> Change
             let next = o.in_new_world(Phase::Goal(Lab { form, at: newest }));
             Change::alone(next, opened)
         }
-        Move::Push => {
-            let clauses = o.clauses + 1;
-            Change::alone(
-                Obligation {
-                    clauses,
-                    ..o.popped()
-                },
-                opened,
-            )
-        }
+        Move::Push => Change::alone(o.pushed(), opened),
         Move::Drop | Move::Note(_, _) => Change::alone(o.popped(), opened),
         // Two chunks in the topmost one's place.
         Move::Split(_, _) => {
