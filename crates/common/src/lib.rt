@@ -104,39 +104,39 @@ pub fn formulas_at() -> u32
 pub fn form_at(i: u16) -> u32
     ensures { result ≡ form_at i }
 {
-    principals_at() + 3 + i as u32
+    principals_at() + 3 + u32::from(i)
 }
 
 pub fn clauses_at(formulas: u16) -> u32
     ensures { result ≡ clauses_at formulas }
 {
-    principals_at() + 3 + formulas as u32
+    principals_at() + 3 + u32::from(formulas)
 }
 
 // The line of policy line number `j`.
 pub fn clause_at(formulas: u16, j: u16) -> u32
     ensures { result ≡ clause_at formulas j }
 {
-    principals_at() + 4 + formulas as u32 + j as u32
+    principals_at() + 4 + u32::from(formulas) + u32::from(j)
 }
 
 pub fn goal_at(formulas: u16, clauses: u16) -> u32
     ensures { result ≡ goal_at formulas clauses }
 {
-    principals_at() + 4 + formulas as u32 + clauses as u32
+    principals_at() + 4 + u32::from(formulas) + u32::from(clauses)
 }
 
 pub fn steps_at(formulas: u16, clauses: u16) -> u32
     ensures { result ≡ steps_at formulas clauses }
 {
-    principals_at() + 5 + formulas as u32 + clauses as u32
+    principals_at() + 5 + u32::from(formulas) + u32::from(clauses)
 }
 
 // The line of the step behind `before` others: steps count from 1.
 pub fn step_at(formulas: u16, clauses: u16, before: u16) -> u32
     ensures { result ≡ step_at formulas clauses (suc before) }
 {
-    principals_at() + 6 + formulas as u32 + clauses as u32 + before as u32
+    principals_at() + 6 + u32::from(formulas) + u32::from(clauses) + u32::from(before)
 }
 
 // The line behind the last step.
