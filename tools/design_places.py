@@ -48,7 +48,7 @@ def functions(text):
 
 
 def parameters(fn):
-    depth, start, head = 0, fn.index("("), ""
+    depth, start, head = 0, re.search(r"\bfn \w+(<.*?>)?\(", fn, re.S).end() - 1, ""
     for c in fn[start:]:
         depth += c in "(<[" or 0
         depth -= c in ")>]" or 0

@@ -13,5 +13,6 @@ pub(crate) fn is_written_back(file: &[u8]) -> bool {
     let Some(rest) = out.strip_prefix(file) else {
         return false;
     };
+    // What is written tells a refusal by its number, as other languages see it.
     written.refusal == 0 && written.length == file.len() && rest.iter().all(|byte| *byte == 0)
 }

@@ -10,7 +10,7 @@ pub(crate) struct Outcome {
 }
 
 impl Outcome {
-    // Whether a file with this answer reads: reading refuses with 1 to 6 and 15.
+    // Whether a file with this answer reads: reading refuses with 1 to 6 and 15, as the index and the gate's text number them.
     pub(crate) fn reads(self) -> bool {
         !matches!(self.answer, 1..=6 | 15)
     }

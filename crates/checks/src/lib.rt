@@ -20,11 +20,9 @@ ghost use Rattle.checks.specs.Whole.{form_part, line_part, step_part};
 use classes::Class;
 use common::{Answer, Counts, Refusal, Row, value_at};
 use numbering::SLOTS;
+use steps::{Pair, Step, pair_at};
 
 mod rows;
-
-// The step `top`, as the number that a table of steps has for it: the one step of the table made below.
-const TOP: u16 = 5;
 
 // A refusal at the place where it is met.
 #[tactic(auto, using(crate::specs::MetLaws::refused_line), unfolding(crate::specs::Met::checked_of, common::specs::Refused::refusal_in))]
@@ -89,9 +87,9 @@ fn check_steps(counts: Counts, steps: &[u16]) -> Result<(), Answer>
     ensures { result ≡ met_in (step_answers counts.formulas counts.policy (unpack step_entry counts.steps steps.now)) }
 {
     for i in 0..counts.steps {
-        let at = 2 * usize::from(i);
-        let kind = usize::from(value_at(steps, at, 0));
-        let carried = u32::from(value_at(steps, at + 1, 0));
+        let pair = pair_at(steps, i);
+        let kind = usize::from(pair.kind);
+        let carried = u32::from(pair.number);
         let step = refusals::check_step(kind, carried, 0);
         at_line(step, common::step_at(counts.formulas, counts.policy, i))?;
     }
@@ -201,6 +199,7 @@ pub fn check_lines(counts: Counts, forms: &[u16], policy: &[u16]) -> Result<(), 
     ensures { result ≡ checked_of (line_answer (lent_with counts forms.now policy.now [])) }
 {
     let mut steps = [0u16; common::STEP_ROOM];
-    steps[0] = TOP;
+    let top = Pair::from(Step::Top);
+    steps[0] = top.kind;
     check_tables(Counts { steps: 1, ..counts }, forms, policy, &steps)
 }

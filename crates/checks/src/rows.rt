@@ -10,6 +10,7 @@ use common::Refusal;
 // The version whose text tells no logic.
 const PLAIN_ONLY: u16 = 1;
 
+// Crate `moves` asks so too, and promises it by cases, as its goals want it: here it is the definition's `demand`.
 #[tactic(auto, unfolding(scope::specs::File::Refusals::demand, common::specs::Refused::refusal_in))]
 pub(crate) fn demand(holds: bool, refusal: Refusal) -> Result<(), Refusal>
     ensures { refusal_in result ≡ demand holds (number_of refusal) 0 }

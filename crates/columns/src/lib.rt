@@ -42,7 +42,7 @@ fn end_stop(text: &[u8]) -> usize
     }
 }
 
-// Behind a kind's word: a space and a number for each operand, then the LF.
+// Behind a kind's word: a space and a number for each operand, then the LF. The invariant reads how many are done.
 #[tactic(auto, using(crate::specs::Places::operands))]
 fn items_stop(text: &[u8], wanted: usize) -> usize
     ensures { result ≡ items_stop wanted text.now }

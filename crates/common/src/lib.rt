@@ -170,7 +170,7 @@ pub fn put_at<T: Copy>(table: &mut [T], at: usize, value: T)
     }
 }
 
-// A text from a place on, which may be any: what passes the end is not stored.
+// A text from a place on: what passes the end is not stored. Output and place stand apart, for it promises this of any place.
 pub fn put_bytes(out: &mut [u8], at: usize, text: &[u8])
     ensures { out.new ≡ sets out.old at text.now }
 {

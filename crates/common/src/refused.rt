@@ -42,6 +42,7 @@ pub enum Refusal {
 }
 
 impl Refusal {
+    // For callers in other languages, who know refusals by their numbers.
     #[tactic(auto, unfolding(crate::specs::Refused::number_of))]
     pub fn number(self) -> u16
         ensures { result ≡ number_of self }

@@ -149,6 +149,7 @@ impl Facts {
         put_at(&mut self.rows, place_of(World(0), UP), 1);
         let mut own = [0; PRINCIPALS];
         for (c, row) in own.iter_mut().enumerate() {
+            // A principal's number, which a u16 holds.
             *row = one_bit(c as u16);
         }
         self.put_sf(World(0), own);

@@ -17,7 +17,7 @@ const GRANTED: Answer = Answer {
     column: 0,
 };
 
-// The first refusal, of the checks or else of the walk.
+// The first refusal, of the checks or else of the walk; counts and tables as other languages lend them.
 fn judged(counts: Counts, forms: &[u16], policy: &[u16], steps: &[u16]) -> Result<(), Answer>
     ensures { refusal_answer result ≡ answer_of (judge' (lent_with counts forms.now policy.now steps.now)) }
 {

@@ -74,7 +74,7 @@ fn most_digits(text: &[u8]) -> usize
     }
 }
 
-// The number that the whole text writes, or where it stops being one.
+// The number that the whole text writes, or where it stops being one: the place of a byte is an answer, so its turns are counted.
 pub fn read_number(text: &[u8]) -> Result<u32, usize>
     ensures { result ≡ number_answer (number text.now) (number_stop text.now) }
 {
@@ -106,6 +106,7 @@ fn kind_number(kinds: &[Kind], word: &[u8]) -> Option<u16>
     ensures { result ≡ kind_answer (kind_from 0 (listed kinds.now) word.now) }
 {
     let at = find_kind(kinds, word)?;
+    // No table is so long that a u16 does not hold its places.
     Some(at as u16)
 }
 
@@ -130,6 +131,7 @@ fn row_in(kinds: &[Kind], value: &[u8]) -> Option<Items>
     let word = items.next()?;
     let kind = kind_number(kinds, word)?;
     let wanted = kinds[kind as usize].operands.len();
+    // Two operands with names of their own: no list to go over.
     let left = operand(items.next(), 0 < wanted)?;
     let right = operand(items.next(), 1 < wanted)?;
     if items.next().is_some() {
@@ -146,7 +148,7 @@ pub fn logic_number(value: &[u8]) -> Option<u16>
     kind_number(logic_kinds(), value)
 }
 
-// The value of a `form=` line.
+// The value of a `form=` line: this and the two beside it say which table of the definition they promise.
 #[tactic(auto, using(crate::specs::Rows::small_forms))]
 pub fn form_row(value: &[u8]) -> Option<Items>
     ensures { result ≡ row_answer (row_in form_kinds value.now) }

@@ -22,7 +22,7 @@ fn note_line(facts: &mut Facts, forms: &[u16], f: u16)
     }
 }
 
-// From the last line on, so that the facts stand in the lines' order.
+// From the last line on, so that the facts stand in the lines' order. A table shorter than its count reads as 0 past its end.
 pub(crate) fn note_lines(facts: &mut Facts, forms: &[u16], lines: &[u16], count: u16)
     ensures { facts.new.rows ≡ lines_noted forms.now lines.now count root_rows }
 {
@@ -32,7 +32,7 @@ pub(crate) fn note_lines(facts: &mut Facts, forms: &[u16], lines: &[u16], count:
     }
 }
 
-// Each line is a clause at world 0.
+// Each line is a clause at world 0; the table may be shorter than its count here too.
 pub(crate) fn first_clauses(lines: &[u16], count: u16) -> [Lab; CLAUSES]
     ensures forms { forms_of result ≡ lines_put lines.now count (replicate clause_places 0) }
     ensures ats { ats_of result ≡ replicate clause_places 0 }

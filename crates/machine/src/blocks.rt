@@ -12,7 +12,7 @@ use facts::{Facts, PRINCIPALS, Row};
 use moves::Move;
 use steps::World;
 
-// The entry of chunk number i of the obligation at a place.
+// The entry of chunk number i of the obligation at a place. Below, a table of chunks and a place in it stand apart: `case` writes two places.
 fn entry_of(place: u16, i: u16) -> usize
     ensures { result ≡ place * most_chunks + i }
 {
@@ -96,7 +96,8 @@ fn put_back(facts: &mut Facts, saved: &[Row; SAVED], next: Obligation, below: u1
     facts.put_sf(World(next.worlds.saturating_sub(1)), kept);
 }
 
-// The rows of facts: the saved rows of sf, a new world, or a note.
+// The rows of facts: the saved rows of sf, a new world, or a note. What it reads and writes comes one by one, for the walk lends each of its
+// tables by itself.
 #[tactic(auto, unfolding(crate::specs::Tables::rows_after))]
 pub(crate) fn move_rows(
     facts: &mut Facts,

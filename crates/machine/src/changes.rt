@@ -126,6 +126,7 @@ impl Change {
     }
 }
 
+// Each move changes otherwise: two that change alike share an arm.
 #[tactic(auto, unfolding(crate::specs::Change::change_of, crate::specs::Change::here, crate::specs::Change::one_more, crate::specs::Room::Room))]
 pub(crate) fn change_of(m: Move, o: Obligation, opened: u16) -> Change
     requires { Room m o.worlds o.clauses (chunk_count o.phase) opened }

@@ -107,7 +107,7 @@ impl Walk {
         self.opened = made.opened;
     }
 
-    // All steps, in the logic unit or plain.
+    // All steps, in the logic unit or plain: as many as are counted, also where the table is shorter.
     fn run(
         &mut self,
         forms: &[u16],

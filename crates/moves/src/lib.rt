@@ -55,7 +55,8 @@ pub enum Move {
     Case(u16, u16),
 }
 
-// What a step asks, and the refusal where it is not so.
+// What a step asks, and the refusal where it is not so. Crate `checks` asks so too, and promises the number of the refusal: goals here want
+// the two cases.
 fn demand(met: bool, refusal: Refusal) -> Result<(), Refusal>
     ensures { MatchResult result (λ _. met ≡ true) (λ e. (met ≡ false) × (e ≡ refusal)) }
 {

@@ -25,6 +25,7 @@ pub struct Read {
     pub counts: Counts,
 }
 
+// Both structs are laid out for other languages, so one is copied into the other.
 impl From<Result<Counts, Answer>> for Read {
     ghost from_gives = { λ got read. read ≡ read_in got };
 

@@ -22,6 +22,7 @@ fn count_in(value: &[u8], least: u16, most: u16) -> Result<u16, Refusal>
     if n < u32::from(least) || u32::from(most) < n {
         return Err(Refusal::Range);
     }
+    // It is at most `most`, so nothing is lost.
     Ok(n as u16)
 }
 

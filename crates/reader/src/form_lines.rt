@@ -63,6 +63,7 @@ fn form_line<'a>(
     ensures slots_after { IfOk result (λ p. slots.new ≡ slots_with forms.now formula slots.old p.0) }
 {
     let value = lines::value_of(text, b"form=");
+    // Behind the key, the value and its LF: the LF is not looked for again.
     match new_row(value, head, formula, forms, slots) {
         Ok(row) => Ok((row, &text[value.len() + 6..])),
         Err(refusal) => {

@@ -22,7 +22,7 @@ mod policy_lines;
 mod step_lines;
 mod version_lines;
 
-// The answer about the line at the front of a text, which is refused: the column of one that is out of shape is the next after the bytes
+// The answer about the line at the front of a text, which is refused (a stop is small, so its column is a u16): the column of one that is out of shape is the next after the bytes
 // that can stand, of any other 0.
 fn refused<F: FnOnce(&[u8]) -> usize>(refusal: Refusal, place: u32, text: &[u8], stop: F) -> Answer
     requires callable { F.IsAlwaysCallable stop }

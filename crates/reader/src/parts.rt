@@ -7,7 +7,7 @@ use common::Answer;
 // What a line or more gave, and the text behind it; or the answer about the first line that is refused.
 pub(crate) type Parsed<'a, T> = Result<(T, &'a [u8]), Answer>;
 
-// The version, and the logic that the first lines tell: 0 where they tell none.
+// The version, and the logic that the first lines tell, as `Counts` tells them to other languages: 0 where they tell none.
 #[derive(Clone, Copy)]
 pub(crate) struct Start {
     pub(crate) version: u16,

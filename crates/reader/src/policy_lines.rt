@@ -16,7 +16,7 @@ use crate::parts::{Head, Parsed, Policy};
 use classes::Class;
 use common::{Answer, Refusal};
 
-// The formula that the value of a line names.
+// The formula that the value of a line names. No count, though asked alike: its bound is not one of the allowed numbers.
 fn formula_in(value: &[u8], formulas: u16) -> Result<u16, Refusal>
     ensures { said same result ≡ shaped_as (below_refusal formulas) (number value.now) }
 {
@@ -26,10 +26,11 @@ fn formula_in(value: &[u8], formulas: u16) -> Result<u16, Refusal>
     if u32::from(formulas) <= n {
         return Err(Refusal::Range);
     }
+    // It is below a count, so nothing is lost.
     Ok(n as u16)
 }
 
-// The same, where its class may stand there.
+// The same, where its class may stand there. The count and the classes come beside one another, as the definition asks of both.
 fn classed_in<F: FnOnce(Class) -> bool>(
     value: &[u8],
     formulas: u16,

@@ -24,6 +24,7 @@ fn step_in(value: &[u8]) -> Result<Step, Refusal>
     };
     let Items { kind, left, right } = items;
     refusals::check_step(usize::from(kind), left, right)?;
+    // It passed as a step's number, so nothing is lost.
     let number = left as u16;
     let step = Step::from(Pair { kind, number });
     Ok(step)
@@ -33,6 +34,7 @@ fn step_line(text: &[u8], place: u32) -> Parsed<'_, Step>
     ensures { Reads step_row (line step_line step_refusal place text.now) result }
 {
     let value = lines::value_of(text, b"step=");
+    // Behind the key, the value and its LF: the LF is not looked for again.
     match step_in(value) {
         Ok(step) => Ok((step, &text[value.len() + 6..])),
         Err(refusal) => Err(crate::refused(refusal, place, text, columns::step_line)),

@@ -114,6 +114,7 @@ impl Case {
         let name = self.name;
         let written = writer::write(self.counts, lent.forms, lent.policy, lent.steps, out);
         println!(to; "{name} {} {}", written.refusal, written.place)?;
+        // What is written tells a refusal by its number, as other languages see it, and so do the lines here.
         if written.refusal != 0 && written.length != 0 {
             println!(to; "{name}: a length after a refusal")?;
         }

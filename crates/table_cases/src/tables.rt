@@ -1,5 +1,6 @@
 // The tables of P1 with one thing changed.
 
+// Lent tables have numbers, and the cases lend some that no kind has.
 // p0, 0 says p0, (0 says p0) imp p0, 1 sf 0 and 1 says p0.
 const FORMS: [u16; 15] = [0, 0, 0, 6, 0, 0, 5, 1, 0, 7, 1, 0, 6, 1, 0];
 

@@ -71,7 +71,7 @@ impl Output<'_> {
         self.put_byte(b'\n');
     }
 
-    // The line of the logic.
+    // The line of the logic, told by a number as in other languages.
     pub(crate) fn put_logic(&mut self, logic: u16)
         requires { self.old.at < 9980000 }
         ensures { Wrote self.old (line_text logic_line (logic_of logic)) 16 self.new }

@@ -72,7 +72,7 @@ impl Output<'_> {
     }
 }
 
-// The whole text of what counts and tables say.
+// The whole text of what counts and tables say, which come as other languages lend them.
 pub(crate) fn put_request(
     counts: Counts,
     forms: &[u16],

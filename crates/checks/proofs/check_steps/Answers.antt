@@ -2,6 +2,7 @@ use mathlib.Core.Path.{◌≡◌}
 use Rattle.std.specs.Prelude.{Err}
 use Rattle.std.proofs.Common.{arith}
 use Rattle.scope.specs.Call.Tables.{unpack, step_entry}
+use Rattle.steps.specs.Steps.{pair_at}
 use Rattle.checks.specs.MetLaws.{passed_none, passed_all, Turn, turn_of, turn_out, turn_go}
 use Rattle.checks.specs.Answers.{step_answers}
 use Rattle.checks.specs.Sections.{steps_length, step_at_lem}
@@ -13,28 +14,28 @@ loop-i-init c =
     passed_none (steps_length a.counts.formulas a.counts.policy a.counts.steps a.steps.now)
 
 pub returns-in_err-at_line : goal.returns-in_err-at_line
+unfolding pair_at
 returns-in_err-at_line c =
     let a = c.args in
     let i = c.loop-i.i in
     let more = c.loop-i-test.true in
     let turn : Turn a.counts.steps (step_answers a.counts.formulas a.counts.policy (unpack step_entry a.counts.steps a.steps.now)) i c.at_line.result =
     turn_of more c.loop-i.invariant (step_at_lem a.counts.formulas a.counts.policy a.counts.steps a.steps.now i more)
-    (rw c.from-at.ensures at
-    (rw (c.value_at.ensures, c.value_at-in-loop-i.ensures) at
-    (rw (c.from-kind.ensures, c.from-carried.ensures) at (rw (c.check_step-step.ensures, c.step_at.ensures) at c.at_line.ensures)))) in
+    (rw c.pair_at-pair.ensures at
+    (rw (c.from-kind.ensures, c.from-carried.ensures) at (rw (c.check_step-step.ensures, c.step_at.ensures) at c.at_line.ensures))) in
     let back : c.from_residual.result ≡ Err c.in_err-at_line.field-0.0 = grind arith in
     turn_out turn c.in_err-at_line.was back
 
 pub loop-i-preserved : goal.loop-i-preserved
+unfolding pair_at
 loop-i-preserved c =
     let a = c.args in
     let i = c.loop-i.i in
     let more = c.loop-i-test.true in
     let turn : Turn a.counts.steps (step_answers a.counts.formulas a.counts.policy (unpack step_entry a.counts.steps a.steps.now)) i c.at_line.result =
     turn_of more c.loop-i.invariant (step_at_lem a.counts.formulas a.counts.policy a.counts.steps a.steps.now i more)
-    (rw c.from-at.ensures at
-    (rw (c.value_at.ensures, c.value_at-in-loop-i.ensures) at
-    (rw (c.from-kind.ensures, c.from-carried.ensures) at (rw (c.check_step-step.ensures, c.step_at.ensures) at c.at_line.ensures)))) in
+    (rw c.pair_at-pair.ensures at
+    (rw (c.from-kind.ensures, c.from-carried.ensures) at (rw (c.check_step-step.ensures, c.step_at.ensures) at c.at_line.ensures))) in
     turn_go turn c.in_ok-at_line.was
 
 pub returns : goal.returns
