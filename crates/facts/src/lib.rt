@@ -78,7 +78,8 @@ impl Facts {
         }
     }
 
-    // All rows of S, or of sf, of a world: past the last world they read as 0, and are not written.
+    // All rows of S, or of sf, of a world: past the last world they read as 0, and are not written. They go one by one, since what copies in
+    // one piece asks at each call whether the two overlap.
     fn block(&self, v: World, part: u16) -> [Row; PRINCIPALS]
         requires { part + principals_max ≤ rows_each }
         ensures { result ≡ block self.now.rows (row_at v.0 part) }
@@ -86,7 +87,9 @@ impl Facts {
         let mut block = [0; PRINCIPALS];
         if v.0 < MOST_WORLDS {
             let at = place_of(v, part);
-            block.copy_from_slice(&self.rows[at..at + PRINCIPALS]);
+            for (c, row) in block.iter_mut().enumerate() {
+                *row = self.rows[at + c];
+            }
         }
         block
     }
@@ -97,7 +100,9 @@ impl Facts {
     {
         if v.0 < MOST_WORLDS {
             let at = place_of(v, part);
-            self.rows[at..at + PRINCIPALS].copy_from_slice(&block);
+            for (c, row) in block.iter().enumerate() {
+                self.rows[at + c] = *row;
+            }
         }
     }
 

@@ -4,7 +4,7 @@ ghost use Rattle.std.specs.Prelude.{◌≡◌, ◌+◌, ◌-◌, ◌*◌, ◌<�
 ghost use Rattle.facts.specs.Rows.{put_sf};
 ghost use Rattle.machine.specs.Change.{chunk_count};
 ghost use Rattle.scope.specs.Limits.{most_principals, most_open, most_chunks};
-ghost use Rattle.machine.specs.Tables.{places, block, top_chunk, split_chunks, case_chunks, chunks_after, saved_after, rows_after};
+ghost use Rattle.machine.specs.Tables.{places, block, put_block, top_chunk, split_chunks, case_chunks, chunks_after, saved_after, rows_after};
 
 use crate::{CHUNKS, HELD, Obligation, SAVED};
 use common::{put_at, value_at};
@@ -41,14 +41,27 @@ fn split_top(chunks: &mut [u16; HELD], place: u16, n: u16, f: u16, h: u16)
     put_chunk(chunks, place, n, f);
 }
 
-// The same chunks one place above, and another topmost one in each.
+// The same chunks one place above.
+fn copy_chunks(chunks: &mut [u16; HELD], place: u16)
+    requires { place < most_open }
+    ensures { chunks.new ≡ put_block most_chunks chunks.old (place + 1) (block most_chunks chunks.old place) }
+{
+    let at = usize::from(place) * CHUNKS;
+    let above = at + CHUNKS;
+    let mut held = [0; CHUNKS];
+    held.copy_from_slice(&chunks[at..above]);
+    for (i, f) in held.iter().enumerate() {
+        chunks[above + i] = *f;
+    }
+}
+
+// Those, and another topmost one in each.
 fn case_top(chunks: &mut [u16; HELD], place: u16, n: u16, f: u16, h: u16)
     requires { place < most_open }
     ensures { chunks.new ≡ case_chunks chunks.old place n f h }
 {
-    let at = usize::from(place) * CHUNKS;
     let i = n.saturating_sub(1);
-    chunks.copy_within(at..at + CHUNKS, at + CHUNKS);
+    copy_chunks(chunks, place);
     put_chunk(chunks, place, i, h);
     put_chunk(chunks, place + 1, i, f);
 }
@@ -81,7 +94,9 @@ pub(crate) fn save_rows(
     if opened < more {
         let at = usize::from(opened.saturating_sub(1)) * PRINCIPALS;
         let kept = facts.sf_rows(World(o.worlds.saturating_sub(1)));
-        saved[at..at + PRINCIPALS].copy_from_slice(&kept);
+        for (c, row) in kept.iter().enumerate() {
+            saved[at + c] = *row;
+        }
     }
 }
 
@@ -92,7 +107,9 @@ fn put_back(facts: &mut Facts, saved: &[Row; SAVED], next: Obligation, below: u1
 {
     let at = usize::from(below) * PRINCIPALS;
     let mut kept = [0; PRINCIPALS];
-    kept.copy_from_slice(&saved[at..at + PRINCIPALS]);
+    for (c, row) in kept.iter_mut().enumerate() {
+        *row = saved[at + c];
+    }
     facts.put_sf(World(next.worlds.saturating_sub(1)), kept);
 }
 

@@ -11,21 +11,11 @@ ghost use Rattle.machine.specs.Machine.{obligation_at as obligation_at'};
 ghost use Rattle.machine.specs.Turn.{seen};
 
 use crate::{HELD, OPENED, Obligation, SAVED, StepRefusal, Walk, begin, blocks, changes};
-use common::{Answer, Refusal, put_at, value_at};
+use common::{Answer, Refusal, put_at};
 use facts::{Facts, ROWS};
 use moves::judging::Sequent;
-use moves::{Lab, Move, Phase};
-use steps::{Step, World};
-
-// What stands past the end of the open obligations.
-const NOTHING: Obligation = Obligation {
-    phase: Phase::Goal(Lab {
-        form: 0,
-        at: World(0),
-    }),
-    worlds: 0,
-    clauses: 0,
-};
+use moves::{Lab, Move};
+use steps::Step;
 
 // The place of the answer is the step's number.
 impl From<StepRefusal> for Answer {
@@ -37,7 +27,9 @@ impl From<StepRefusal> for Answer {
 }
 
 impl StepRefusal {
-    // Steps are numbered from 0 in the table, and from 1 in the answer.
+    // Steps are numbered from 0 in the table, and from 1 in the answer. No turn goes on from here, so none is to carry the answer along.
+    #[cold]
+    #[inline(never)]
     fn at(refusal: Refusal, i: u16) -> Self
         ensures { result ≡ refusal_at refusal i }
     {
@@ -58,14 +50,16 @@ fn step_at(steps: &[u16], i: u16) -> Step
 impl Walk {
     #[tactic(auto, unfolding(crate::specs::Machine::obligation_at))]
     fn obligation_at(&self, place: u16) -> Obligation
+        requires { place ≤ most_open }
         ensures { result ≡ obligation_at' (seen self.now) place }
     {
-        value_at(&self.obligations, usize::from(place), NOTHING)
+        self.obligations[usize::from(place)]
     }
 
     // A step judged on the current obligation.
     #[tactic(auto, unfolding(crate::specs::Machine::judged_now))]
     fn judged(&self, forms: &[u16], x: Step) -> Result<Move, Refusal>
+        requires { self.now.opened ≤ most_open }
         ensures { result ≡ judged_now forms.now (seen self.now) x }
     {
         let place = self.opened.saturating_sub(1);
@@ -102,8 +96,8 @@ impl Walk {
         blocks::move_rows(&mut self.facts, &self.saved, unit, m, o, next, below);
         blocks::move_chunks(&mut self.chunks, m, o, place);
         put_at(&mut self.clauses, usize::from(o.clauses), top);
-        put_at(&mut self.obligations, usize::from(opened), made.upper);
-        put_at(&mut self.obligations, usize::from(place), made.lower);
+        self.obligations[usize::from(opened)] = made.upper;
+        self.obligations[usize::from(place)] = made.lower;
         self.opened = made.opened;
     }
 

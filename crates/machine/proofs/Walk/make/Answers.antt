@@ -1,5 +1,5 @@
 -- `make` meets its contract: each call writes a table as the definition does.
-use Rattle.std.proofs.Common.{ap, ◌∙◌}
+use Rattle.std.proofs.Common.{ap, refl, ◌∙◌}
 use Rattle.std.proofs.lemmas.List.{map-set}
 use Rattle.moves.specs.declared.Lab.{Lab}
 use Rattle.moves.specs.Judge.{forms_of, ats_of}
@@ -22,5 +22,5 @@ returns c =
       held = rw place at c.move_chunks.ensures;
       clause = rw c.from.ensures at (ap forms_of c.put_at.ensures ∙ map-set (λ (l : Lab). l.form) _ _ _);
       world = rw (c.from.ensures, c.goal.ensures) at (ap ats_of c.put_at.ensures ∙ map-set (λ (l : Lab). l.at.0) _ _ _);
-      opens = rw (c.put_at-2.ensures, c.from-2.ensures, c.from-3.ensures, place) at c.put_at-3.ensures;
+      opens = rw (c.from-2.ensures, c.from-3.ensures, place) refl;
     })
