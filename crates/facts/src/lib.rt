@@ -78,8 +78,8 @@ impl Facts {
         }
     }
 
-    // All rows of S, or of sf, of a world: past the last world they read as 0, and are not written. They go one by one, since what copies in
-    // one piece asks at each call whether the two overlap.
+    // All rows of S, or of sf, of a world: past the last world they read as 0, and are not written. They go one by one, by their
+    // number: what copies in one piece asks at each call whether the two overlap, and an iterator keeps them in memory on the way.
     fn block(&self, v: World, part: u16) -> [Row; PRINCIPALS]
         requires { part + principals_max ≤ rows_each }
         ensures { result ≡ block self.now.rows (row_at v.0 part) }
@@ -87,8 +87,8 @@ impl Facts {
         let mut block = [0; PRINCIPALS];
         if v.0 < MOST_WORLDS {
             let at = place_of(v, part);
-            for (c, row) in block.iter_mut().enumerate() {
-                *row = self.rows[at + c];
+            for c in 0..PRINCIPALS {
+                block[c] = self.rows[at + c];
             }
         }
         block
@@ -100,8 +100,8 @@ impl Facts {
     {
         if v.0 < MOST_WORLDS {
             let at = place_of(v, part);
-            for (c, row) in block.iter().enumerate() {
-                self.rows[at + c] = *row;
+            for c in 0..PRINCIPALS {
+                self.rows[at + c] = block[c];
             }
         }
     }

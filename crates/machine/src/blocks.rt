@@ -4,7 +4,7 @@ ghost use Rattle.std.specs.Prelude.{◌≡◌, ◌+◌, ◌-◌, ◌*◌, ◌<�
 ghost use Rattle.facts.specs.Rows.{put_sf};
 ghost use Rattle.machine.specs.Change.{chunk_count};
 ghost use Rattle.scope.specs.Limits.{most_principals, most_open, most_chunks};
-ghost use Rattle.machine.specs.Tables.{places, block, put_block, top_chunk, split_chunks, case_chunks, chunks_after, saved_after, rows_after};
+ghost use Rattle.machine.specs.Tables.{places, block, top_chunk, split_chunks, case_chunks, chunks_after, saved_after, rows_after};
 
 use crate::{CHUNKS, HELD, Obligation, SAVED};
 use common::{put_at, value_at};
@@ -41,27 +41,14 @@ fn split_top(chunks: &mut [u16; HELD], place: u16, n: u16, f: u16, h: u16)
     put_chunk(chunks, place, n, f);
 }
 
-// The same chunks one place above.
-fn copy_chunks(chunks: &mut [u16; HELD], place: u16)
-    requires { place < most_open }
-    ensures { chunks.new ≡ put_block most_chunks chunks.old (place + 1) (block most_chunks chunks.old place) }
-{
-    let at = usize::from(place) * CHUNKS;
-    let above = at + CHUNKS;
-    let mut held = [0; CHUNKS];
-    held.copy_from_slice(&chunks[at..above]);
-    for (i, f) in held.iter().enumerate() {
-        chunks[above + i] = *f;
-    }
-}
-
-// Those, and another topmost one in each.
+// The same chunks one place above, and another topmost one in each.
 fn case_top(chunks: &mut [u16; HELD], place: u16, n: u16, f: u16, h: u16)
     requires { place < most_open }
     ensures { chunks.new ≡ case_chunks chunks.old place n f h }
 {
+    let at = usize::from(place) * CHUNKS;
     let i = n.saturating_sub(1);
-    copy_chunks(chunks, place);
+    chunks.copy_within(at..at + CHUNKS, at + CHUNKS);
     put_chunk(chunks, place, i, h);
     put_chunk(chunks, place + 1, i, f);
 }
@@ -94,8 +81,8 @@ pub(crate) fn save_rows(
     if opened < more {
         let at = usize::from(opened.saturating_sub(1)) * PRINCIPALS;
         let kept = facts.sf_rows(World(o.worlds.saturating_sub(1)));
-        for (c, row) in kept.iter().enumerate() {
-            saved[at + c] = *row;
+        for c in 0..PRINCIPALS {
+            saved[at + c] = kept[c];
         }
     }
 }
@@ -107,8 +94,8 @@ fn put_back(facts: &mut Facts, saved: &[Row; SAVED], next: Obligation, below: u1
 {
     let at = usize::from(below) * PRINCIPALS;
     let mut kept = [0; PRINCIPALS];
-    for (c, row) in kept.iter_mut().enumerate() {
-        *row = saved[at + c];
+    for c in 0..PRINCIPALS {
+        kept[c] = saved[at + c];
     }
     facts.put_sf(World(next.worlds.saturating_sub(1)), kept);
 }

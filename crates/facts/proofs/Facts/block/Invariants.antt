@@ -6,4 +6,4 @@ use Prim.Native.Nat.{ℕ, ◌+◌}
 use Rattle.facts.proofs.Facts.block.Given as goal
 
 abbrev pub invariant-loop-c : goal.invariant-loop-c
-invariant-loop-c l = l.row-items ≡ fill (λ (i : ℕ). get_or l.self.rows (l.at + i) 0) 0 l.c l.initial.row-items
+invariant-loop-c l = l.block ≡ fill (λ (i : ℕ). get_or l.self.rows (l.at + i) 0) 0 l.c l.initial.block

@@ -6,4 +6,4 @@ use Prim.Native.Nat.{ℕ}
 use Rattle.facts.proofs.Facts.put_block.Given as goal
 
 abbrev pub invariant-loop-c : goal.invariant-loop-c
-invariant-loop-c l = l.self.rows ≡ fill (λ (i : ℕ). get_or l.fn.block i 0) l.at l.c l.initial.self.rows
+invariant-loop-c l = l.self.rows ≡ fill (λ (i : ℕ). get_or l.block i 0) l.at l.c l.initial.self.rows

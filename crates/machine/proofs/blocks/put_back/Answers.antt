@@ -16,5 +16,5 @@ pub returns : goal.returns
 unfolding block
 returns c =
     let done : c.loop-c.c ≡ most_principals = omega arith in
-    let read : c.loop-c.row-items ≡ block most_principals c.args.saved.now c.args.below = rw (done, c.from-at.ensures) at c.loop-c.invariant in
+    let read : c.loop-c.kept ≡ block most_principals c.args.saved.now c.args.below = rw (done, c.from-at.ensures) at c.loop-c.invariant in
     rw (read, c.saturating_sub.ensures) at c.put_sf.ensures

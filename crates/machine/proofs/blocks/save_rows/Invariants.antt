@@ -6,4 +6,4 @@ use Prim.Native.Nat.{ℕ}
 use Rattle.machine.proofs.blocks.save_rows.Given as goal
 
 abbrev pub invariant-loop-c : goal.invariant-loop-c
-invariant-loop-c l = l.saved ≡ fill (λ (i : ℕ). get_or l.row-items i 0) l.at l.c l.initial.saved
+invariant-loop-c l = l.saved ≡ fill (λ (i : ℕ). get_or l.kept i 0) l.at l.c l.initial.saved
