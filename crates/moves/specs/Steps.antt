@@ -1,6 +1,6 @@
 -- What each of the eighteen steps comes to on the numbers of a formula's row, tests in the order of the refusals 7, 8, 9, 10.
 -- Crate `walks` proves that these are document 01's steps (scope's `step_on` and `within`).
-use Rattle.std.specs.Prelude.{ℕ, Bool, true, false, List, Option, Some, None, Result, Ok, Err, eqb, leb}
+use Rattle.std.specs.Prelude.{ℕ, ◌≡◌, refl, Bool, true, false, List, Option, Some, None, Result, Ok, Err, eqb, leb}
 use Rattle.scope.specs.Logic.Facts as Fact
 use Rattle.scope.specs.Limits.{most_worlds, most_clauses, most_open, most_chunks}
 use Rattle.facts.specs.Rows.{told}
@@ -9,7 +9,7 @@ use Rattle.steps.specs.declared.Principal.{Principal}
 use Rattle.common.specs.declared.rows.Row.{Row}
 use Rattle.common.specs.declared.refused.Refusal.{Refusal}
 use Rattle.common.specs.declared.refused.Refusal.TheVariants.{StepMisfit, NoSuchNumber, FactAbsent, LimitPassed}
-use Rattle.common.specs.Refused.{number_of}
+use Rattle.common.specs.Refused.{number_of, refusal_in}
 use Rattle.moves.specs.declared.Lab.{Lab}
 use Rattle.moves.specs.declared.Move.{Move}
 use Rattle.moves.specs.declared.Move.TheVariants as move
@@ -18,6 +18,12 @@ use Rattle.moves.specs.declared.Move.TheVariants as move
 unfoldable pub number_in : Result Move Refusal → ℕ
 number_in (Ok m) = 0
 number_in (Err r) = number_of r
+
+-- It is the number of what the code gives back.
+pub number_said : (j k : Result Move Refusal) → j ≡ k → refusal_in j ≡ number_in k
+unfolding number_in refusal_in
+number_said j (Ok m) e = rw e refl
+number_said j (Err r) e = rw e refl
 
 -- Shut, so that its two laws fit.
 unfoldable pub pick : {A : Type 0} → Bool → A → A → A

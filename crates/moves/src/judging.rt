@@ -2,6 +2,8 @@
 #![tactic(auto, using(crate::specs::Tests::tests), unfolding(common::specs::Rows::kind_number, common::specs::Rows::row_at, crate::specs::Judge::find_clause, crate::specs::Judge::use_clause, crate::specs::Judge::on_goal, crate::specs::Judge::goal_step, crate::specs::Judge::on_focus, crate::specs::Judge::focus_step, crate::specs::Judge::on_chunk, crate::specs::Judge::chunk_step, crate::specs::Judge::judge_step, crate::specs::Steps::and_step, crate::specs::Steps::or1_step, crate::specs::Steps::or2_step, crate::specs::Steps::imp_step, crate::specs::Steps::says_step, crate::specs::Steps::top_step, crate::specs::Steps::left_step, crate::specs::Steps::right_step, crate::specs::Steps::split_step, crate::specs::Steps::case_step, crate::specs::Steps::absurd_step, crate::specs::Steps::drop_step, crate::specs::Steps::note_step))]
 
 ghost use Rattle.std.specs.Prelude.{◌≡◌};
+ghost use Rattle.common.specs.Refused.{refusal_in};
+ghost use Rattle.moves.specs.Steps.{number_in};
 ghost use Rattle.moves.specs.Judge.{forms_of, ats_of, find_clause, goal_step, focus_step, chunk_step, judge_step};
 
 use crate::{Lab, Move, Phase, chunk, focus, goal, on_kind, with_room};
@@ -113,9 +115,12 @@ impl Sequent<'_> {
     }
 
     // The current obligation by its phase and its topmost chunk.
+    #[tactic(auto, using(crate::specs::Steps::number_said), unfolding(crate::specs::Judge::judge_step))]
     pub fn judge_step(&self, phase: Phase, top: u16, x: Step) -> Result<Move, Refusal>
-        ensures { result ≡ judge_step self.now.forms.now self.now.facts.now.rows (forms_of self.now.clauses.now) (ats_of self.now.clauses.now)
+        ensures value { result ≡ judge_step self.now.forms.now self.now.facts.now.rows (forms_of self.now.clauses.now) (ats_of self.now.clauses.now)
             phase top x self.now.worlds self.now.count self.now.opened }
+        ensures number { refusal_in result ≡ number_in (judge_step self.now.forms.now self.now.facts.now.rows (forms_of self.now.clauses.now) (ats_of self.now.clauses.now)
+            phase top x self.now.worlds self.now.count self.now.opened) }
     {
         match phase {
             Phase::Goal(g) => self.goal_step(g, x),
