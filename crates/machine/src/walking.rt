@@ -117,10 +117,10 @@ impl Walk {
                 return Err(StepRefusal::at(Refusal::AllClosed, i));
             }
             let x = step_at(steps, i);
-            let m = self
-                .judged(forms, x)
-                .map_err(|refusal| StepRefusal::at(refusal, i))?;
-            self.make(unit, m);
+            match self.judged(forms, x) {
+                Ok(m) => self.make(unit, m),
+                Err(refusal) => return Err(StepRefusal::at(refusal, i)),
+            }
         }
         if 0 < self.opened {
             return Err(StepRefusal::at(Refusal::LeftOpen, total));

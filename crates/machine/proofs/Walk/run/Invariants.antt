@@ -8,4 +8,4 @@ use Rattle.machine.proofs.Walk.run.Given as goal
 abbrev pub invariant-loop-i : goal.invariant-loop-i
 invariant-loop-i l =
     (l.self.opened ≤ most_open) ×
-    (ran_from l.unit l.forms l.steps l.total 0 (seen l.initial.self) ≡ ran_from l.unit l.forms l.steps (l.total - l.i-counter) l.i-counter (seen l.self))
+    (ran_from l.unit l.forms l.steps l.total 0 (seen l.initial.self) ≡ ran_from l.unit l.forms l.steps (l.total - l.i) l.i (seen l.self))
