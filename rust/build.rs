@@ -1,4 +1,4 @@
-//! Links libperaduksi.a: from the folder that PERADUKSI_LIB names, or from where `rt lib` in crates/peraduksi writes it.
+//! Links libperaduksi.a: from the folder that PERADUKSI_LIB names, or from where `rt lib --cpu x86-64` in crates/peraduksi writes it.
 
 use std::env;
 use std::path::PathBuf;
@@ -14,7 +14,7 @@ fn main() {
         }
     };
     let archive = folder.join("libperaduksi.a");
-    assert!(archive.exists(), "{} is missing: run `rt lib` in crates/peraduksi", archive.display());
+    assert!(archive.exists(), "{} is missing: run `rt lib --cpu x86-64` in crates/peraduksi", archive.display());
     println!("cargo:rerun-if-changed={}", archive.display());
     println!("cargo:rustc-link-search=native={}", folder.display());
     println!("cargo:rustc-link-lib=static=peraduksi");

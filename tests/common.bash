@@ -24,15 +24,15 @@ crates_under() { # NAME
 }
 
 # Has rt prove a crate, what it stands on first, and build it (`rt run` in the crate's folder, of a program, which it then runs on an
-# empty input; `rt lib`, of a library). Each crate that has changed gets a line on the error output when it is proved: how many of how
+# empty input; `rt lib`, of a library), with the flags given. Each crate that has changed gets a line on the error output when it is proved: how many of how
 # many are, its name, the seconds. Where that fails, all that rt said follows.
-prove() { # WORD NAME
+prove() { # WORD NAME [FLAG..]
     local log=$root/target/$2.log all line crate='' began=$SECONDS under status
     local -A proved=()
     all=$(crates_under "$2" | wc -l)
     mkdir -p "$root/target"
     echo "proving and building $2 over $((all - 1)) other crates, some minutes from nothing .." >&2
-    (cd "$root/crates/$2" && rt "$1" 2>&1 </dev/null) | tee "$log" | while IFS= read -r line; do
+    (cd "$root/crates/$2" && rt "$1" "${@:3}" 2>&1 </dev/null) | tee "$log" | while IFS= read -r line; do
         if [[ $line =~ ^crate\ ([a-z_]+):\  ]]; then
             crate=${BASH_REMATCH[1]}
         elif [[ -n $crate && $line == logic=proved\ * ]]; then
@@ -79,12 +79,13 @@ links_library() {
     [[ $(uname -m) == x86_64 ]] || { echo "the static library links into x86-64 programs only: $1 is left out here"; return 1; }
 }
 
-# Sees to it that the static library is built and no older than the crates.
+# Sees to it that the static library is built and no older than the crates: for every x86-64 processor, as README has it, where the kit's
+# own choice is a later one (x86-64-v2).
 archive=$root/crates/peraduksi/out/libperaduksi.a
 build_library() {
     if ! is_current "$archive"; then
         mkdir -p "$root/target" && : >"$root/target/began"
-        prove lib peraduksi || return 1
+        prove lib peraduksi --cpu x86-64 || return 1
         touch -r "$root/target/began" "$archive"
     fi
 }
