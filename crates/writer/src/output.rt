@@ -19,8 +19,10 @@ pub(crate) struct Output<'a> {
     pub(crate) at: usize,
 }
 
-// How far the place may be differs from line to line, by how long the line may get: no one bound of the type says it.
+// How far the place may be differs from line to line, by how long the line may get: no one bound of the type says it. Each method is inlined
+// where the output is made, so that its place stands in a register: in memory, each byte that is stored might be the place's.
 impl Output<'_> {
+    #[inline(always)]
     fn put_byte(&mut self, byte: u8)
         requires { self.old.at < 10000000 }
         ensures { Wrote self.old (byte ∷ []) 1 self.new }
@@ -29,16 +31,20 @@ impl Output<'_> {
         self.at += 1;
     }
 
+    // Byte by byte: a call that copies them all costs more for so few.
+    #[inline(always)]
     fn put_bytes(&mut self, text: &[u8])
         requires at { self.old.at < 9990000 }
         requires short { length text.now ≤ 16 }
         ensures { Wrote self.old text.now 16 self.new }
     {
-        common::put_bytes(self.bytes, self.at, text);
-        self.at += text.len();
+        for &byte in text {
+            self.put_byte(byte);
+        }
     }
 
     // The digit at a place, where the number reaches so far.
+    #[inline(always)]
     fn put_place(&mut self, n: u16, place: u16)
         requires at { self.old.at < 10000000 }
         requires positive { 0 < place }
@@ -50,6 +56,7 @@ impl Output<'_> {
     }
 
     // From the first digit on, each into its final byte.
+    #[inline(always)]
     fn put_number(&mut self, n: u16)
         requires { self.old.at < 9999996 }
         ensures { Wrote self.old (numeral n) 5 self.new }
@@ -61,6 +68,7 @@ impl Output<'_> {
     }
 
     // A line whose value is a number.
+    #[inline(always)]
     pub(crate) fn put_count(&mut self, key: &[u8], n: u16)
         requires at { self.old.at < 9980000 }
         requires short { length key.now ≤ 16 }
@@ -72,6 +80,7 @@ impl Output<'_> {
     }
 
     // The line of the logic, told by a number as in other languages.
+    #[inline(always)]
     pub(crate) fn put_logic(&mut self, logic: u16)
         requires { self.old.at < 9980000 }
         ensures { Wrote self.old (line_text logic_line (logic_of logic)) 16 self.new }
@@ -83,6 +92,7 @@ impl Output<'_> {
     }
 
     // An operand stands behind a space.
+    #[inline(always)]
     fn put_operand(&mut self, n: u16)
         requires { self.old.at < 9990000 }
         ensures { Wrote self.old (operand_text n) 6 self.new }
@@ -92,6 +102,7 @@ impl Output<'_> {
     }
 
     // As many of a row's operands as its kind has.
+    #[inline(always)]
     fn put_operands(&mut self, count: usize, row: Row)
         requires { self.old.at < 9980100 }
         ensures { Wrote self.old (operands_text count row.left row.right) 12 self.new }
@@ -107,6 +118,7 @@ impl Output<'_> {
     }
 
     // A kind's word and its operands: a number that no kind has stands for no word and no operand.
+    #[inline(always)]
     fn put_items(&mut self, kinds: &[Kind], row: Row)
         requires at { self.old.at < 9980000 }
         requires short { are_short (listed kinds.now) ≡ true }
@@ -122,6 +134,7 @@ impl Output<'_> {
     }
 
     // A line whose value is a row of these kinds.
+    #[inline(always)]
     pub(crate) fn put_row(&mut self, key: &[u8], kinds: &[Kind], row: Row)
         requires at { self.old.at < 9970000 }
         requires key_short { length key.now ≤ 16 }

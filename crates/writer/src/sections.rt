@@ -15,6 +15,7 @@ use steps::pair_at;
 
 impl Output<'_> {
     // The first line, and the second in version 2.
+    #[inline(always)]
     fn put_version(&mut self, counts: Counts)
         requires { self.old.at < 10 }
         ensures { Wrote self.old (version_text counts.version (logic_of counts.logic)) 38 self.new }
@@ -25,6 +26,7 @@ impl Output<'_> {
         }
     }
 
+    #[inline(always)]
     fn put_head(&mut self, counts: Counts)
         requires { self.old.at < 10 }
         ensures { Wrote self.old (head_text counts.version (logic_of counts.logic) counts.principals counts.atoms) 82 self.new }
@@ -34,6 +36,7 @@ impl Output<'_> {
         self.put_count(b"atoms=", counts.atoms);
     }
 
+    #[inline(always)]
     fn put_formulas(&mut self, count: u16, forms: &[u16])
         requires { self.old.at < 5000000 }
         ensures { Wrote self.old (formulas_text count forms.now) (22 + 45 * count) self.new }
@@ -44,6 +47,7 @@ impl Output<'_> {
         }
     }
 
+    #[inline(always)]
     fn put_policy(&mut self, count: u16, policy: &[u16])
         requires { self.old.at < 5000000 }
         ensures { Wrote self.old (policy_text count policy.now) (22 + 22 * count) self.new }
@@ -54,6 +58,7 @@ impl Output<'_> {
         }
     }
 
+    #[inline(always)]
     fn put_proof(&mut self, goal: u16, count: u16, steps: &[u16])
         requires { self.old.at < 5000000 }
         ensures { Wrote self.old (proof_text goal count steps.now) (44 + 45 * count) self.new }
