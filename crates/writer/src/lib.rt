@@ -7,7 +7,7 @@ use sections::put_request;
 mod output;
 mod sections;
 
-ghost use Rattle.std.specs.Prelude.{◌≡◌, length};
+ghost use Rattle.std.specs.Prelude.{◌≡◌, length, replicate};
 ghost use Rattle.scope.specs.Call.Calls.{writing, output_after};
 ghost use Rattle.checks.specs.Met.{lent_with};
 ghost use Rattle.writer.specs.Writing.{writing_of, refused_as};
@@ -34,6 +34,13 @@ impl From<Answer> for Writing {
     }
 }
 
+// Zeros throughout: what a text is put into, and what a refusal leaves.
+fn zero_bytes(out: &mut [u8])
+    ensures { out.new ≡ replicate (length out.old) 0 }
+{
+    out.fill(0);
+}
+
 pub fn write(
     counts: Counts,
     forms: &[u16],
@@ -44,13 +51,13 @@ pub fn write(
     ensures answered { result ≡ writing_of (writing (lent_with counts forms.now policy.now steps.now) (length out.old)) }
     ensures output { out.new ≡ output_after (length out.old) (writing (lent_with counts forms.now policy.now steps.now) (length out.old)) }
 {
-    out.fill(0);
+    zero_bytes(out);
     if let Err(answer) = checks::check_tables(counts, forms, policy, steps) {
         return Writing::from(answer);
     }
     let length = put_request(counts, forms, policy, steps, out);
     if out.len() < length {
-        out.fill(0);
+        zero_bytes(out);
         return Writing::from(Answer::at(Refusal::OutputTooShort, 0));
     }
     Writing {
