@@ -31,16 +31,14 @@ impl Output<'_> {
         self.at += 1;
     }
 
-    // Byte by byte: a call that copies them all costs more for so few.
     #[inline(always)]
     fn put_bytes(&mut self, text: &[u8])
         requires at { self.old.at < 9990000 }
         requires short { length text.now ≤ 16 }
         ensures { Wrote self.old text.now 16 self.new }
     {
-        for &byte in text {
-            self.put_byte(byte);
-        }
+        common::put_bytes(self.bytes, self.at, text);
+        self.at += text.len();
     }
 
     // The digit at a place, where the number reaches so far.
