@@ -22,23 +22,26 @@ pub(crate) struct Output<'a> {
 // How far the place may be differs from line to line, by how long the line may get: no one bound of the type says it. Each method is inlined
 // where the output is made, so that its place stands in a register: in memory, each byte that is stored might be the place's.
 impl Output<'_> {
+    // A byte is put as a text of one.
     #[inline(always)]
     fn put_byte(&mut self, byte: u8)
         requires { self.old.at < 10000000 }
         ensures { Wrote self.old (byte ∷ []) 1 self.new }
     {
-        common::put_at(self.bytes, self.at, byte);
+        common::put_bytes(self.bytes, self.at, &[byte]);
         self.at += 1;
     }
 
+    // Words are short: byte by byte, so that what is asked before a text is asked of a constant length.
     #[inline(always)]
     fn put_bytes(&mut self, text: &[u8])
         requires at { self.old.at < 9990000 }
         requires short { length text.now ≤ 16 }
         ensures { Wrote self.old text.now 16 self.new }
     {
-        common::put_bytes(self.bytes, self.at, text);
-        self.at += text.len();
+        for &byte in text {
+            self.put_byte(byte);
+        }
     }
 
     // The digit at a place, where the number reaches so far.
