@@ -1,7 +1,7 @@
--- A word as one number. Two words of bytes have the same number only if they are the same. The code compares words byte by byte: this stands
--- by itself.
-use Rattle.std.specs.Prelude.{ℕ, suc, ◌+◌, ◌*◌, ◌≤◌, ◌<◌, ◌≡◌, refl, List, [], ◌∷◌, Bool, true, false, cond, ltb, eqb, length, get_or}
-use Rattle.std.proofs.Common.{arith, ap, sym, ◌∙◌, ltb-true, ltb-false, lt-ltb, le-ltb, eqb-true, eq-eqb, ne_eqb}
+-- A word as one number. Two words of bytes have the same number only if they are the same.
+use Rattle.std.specs.Prelude.{ℕ, zero, suc, ◌+◌, ◌*◌, ◌^◌, ◌≤◌, ◌<◌, ◌≡◌, refl, List, [], ◌∷◌, Bool, true, false, cond, ltb, eqb, length, take, drop, get_or}
+use Rattle.std.proofs.Common.{add-one, arith, ap, sym, ◌∙◌, drop_of_length-le, pow-add, drop-cons, ltb-true, ltb-false, lt-ltb, le-ltb, eqb-true, eq-eqb, ne_eqb}
+use Rattle.std.proofs.Math.Pow.{pow-lt}
 use Rattle.scope.specs.Tools.Tests.{never}
 use Rattle.scope.specs.Logic.Form.{both}
 use Rattle.scope.specs.File.Kinds.{same}
@@ -17,7 +17,7 @@ unfolding code_from
 code_of w = cond (ltb 7 (length w)) 0 (code_from 1 w)
 
 -- Words of different lengths are different.
-same_lengths : (s t : List ℕ) → (length s ≡ length t → ⊥) → same s t ≡ false
+pub same_lengths : (s t : List ℕ) → (length s ≡ length t → ⊥) → same s t ≡ false
 unfolding same both
 same_lengths [] [] h = absurd (h refl)
 same_lengths [] (b ∷ t) h = refl
@@ -28,7 +28,7 @@ same_lengths (a ∷ s) (b ∷ t) h = go (eqb a b) (same_lengths s t (λ e. h (ap
     go true e = e
     go false e = refl
 
-same_here : (a b : ℕ) (s t : List ℕ) → eqb a b ≡ true → same (a ∷ s) (b ∷ t) ≡ same s t
+pub same_here : (a b : ℕ) (s t : List ℕ) → eqb a b ≡ true → same (a ∷ s) (b ∷ t) ≡ same s t
 unfolding same both
 same_here a b s t e = rw e refl
 
@@ -36,13 +36,39 @@ same_here a b s t e = rw e refl
 abbrev pub AreBytes : List ℕ → Type 0
 AreBytes s = (i : ℕ) → get_or s i 0 < 256
 
-code_long : (w : List ℕ) → 7 < length w → 0 ≡ code_of w
+pub bytes_front : (n : ℕ) (s : List ℕ) → AreBytes s → AreBytes (take n s)
+bytes_front zero s f i = omega arith
+bytes_front (suc n) [] f i = omega arith
+bytes_front (suc n) (b ∷ s) f zero = f 0
+bytes_front (suc n) (b ∷ s) f (suc i) = bytes_front n s (λ j. f (suc j)) i
+
+-- At a place of the word that is reached: one more digit.
+pub code_goes : (w : List ℕ) (v i : ℕ) → i < length w → code_from v (drop i w) ≡ code_from (v * 256 + get_or w i 0) (drop (i + 1) w)
+unfolding code_from
+code_goes w v i h = rw (add-one, drop-cons w i 0 h) refl
+
+pub code_ends : (w : List ℕ) (v i : ℕ) → length w ≤ i → code_from v (drop i w) ≡ v
+unfolding code_from
+code_ends w v i h = rw (drop_of_length-le w h) refl
+
+pub code_long : (w : List ℕ) → 7 < length w → 0 ≡ code_of w
 unfolding code_of
 code_long w h = rw (lt-ltb 7 (length w) h) refl
 
-code_short : (w : List ℕ) → length w ≤ 7 → code_of w ≡ code_from 1 w
+pub code_short : (w : List ℕ) → length w ≤ 7 → code_of w ≡ code_from 1 w
 unfolding code_of
 code_short w h = rw (le-ltb 7 (length w) h) refl
+
+-- The code of i bytes is below 2 * 256 ^ i: with one byte more, it fits 64 bits.
+pub code_fits : (v i : ℕ) → i < 7 → v < 2 ^ (8 * i + 1) → v < 2 ^ 56
+code_fits v i h k =
+    let l : 2 ^ (8 * i + 1) < 2 ^ 56 = pow-lt {i = 8 * i + 1} {j = 56} (omega arith) in
+    omega (arith, k, l)
+
+pub code_grows : (v i b : ℕ) → v < 2 ^ (8 * i + 1) → b < 256 → v * 256 + b < 2 ^ (8 * (i + 1) + 1)
+code_grows v i b h k =
+    let e : 8 * (i + 1) + 1 ≡ (8 * i + 1) + 8 = omega arith in
+    rw (e, pow-add 2 (8 * i + 1) 8) (omega (arith, h, k))
 
 code_least : (w : List ℕ) (v : ℕ) → v ≤ code_from v w
 unfolding code_from

@@ -1,8 +1,10 @@
 -- A line by parts of the text: the value after the key, and what follows the LF.
-use Rattle.std.specs.Prelude.{ℕ, suc, ◌+◌, ◌-◌, ◌≤◌, ◌<◌, ◌≡◌, refl, List, [], ◌∷◌, Bool, true, false, not, ◌&&◌, cond, eqb, ltb, length, take, drop, position, Option as Optional, None, Some}
+use Rattle.std.specs.Prelude.{ℕ, zero, suc, ◌+◌, ◌-◌, ◌≤◌, ◌<◌, ◌≡◌, refl, List, [], ◌∷◌, Bool, true, false, not, ◌&&◌, cond, eqb, ltb, length, take, drop, position, Option as Optional, None, Some}
 use Rattle.std.specs.List.{position_or_len}
 use Rattle.std.specs.Str.{bytes_eq}
-use Rattle.std.proofs.Common.{arith, ap, length-drop, take_all, ltb-true, ltb-false}
+use Rattle.std.proofs.Math.Nat.{sub-zero, suc-sub-suc}
+use Rattle.std.proofs.Math.Seq.{take-nil}
+use Rattle.std.proofs.Common.{arith, ap, sym, length-drop, take_all, ltb-true, ltb-false}
 use Rattle.std.proofs.Math.Option.{Option, none, some}
 use Rattle.scope.specs.Call.Answer.{column_for}
 use Rattle.scope.specs.File.Line.{Line, Cut, parts, uncut, cut, cut_after, strip, valued, shaped_as, placed, line_of, line_stop, line}
@@ -105,6 +107,12 @@ strip_is (k ∷ ks) (c ∷ t) = go (eqb c k) (strip_is ks t)
         → cond b (strip ks t) none ≡ cond (b && bytes_eq (take (length ks) t) ks) (some (drop (length ks) t)) none
     go true e = e
     go false e = refl
+
+pub drop_take : (n m : ℕ) (s : List ℕ) → drop n (take m s) ≡ take (m - n) (drop n s)
+drop_take zero m s = rw sub-zero refl
+drop_take (suc n) zero s = let e : 0 - suc n ≡ 0 = omega arith in rw e refl
+drop_take (suc n) (suc m) [] = sym (take-nil (suc m - suc n))
+drop_take (suc n) (suc m) (c ∷ s) = rw suc-sub-suc (drop_take n m s)
 
 -- A part that ends where the text ends.
 pub tail_part : (n : ℕ) (s : List ℕ) → take (length s - n) (drop n s) ≡ drop n s

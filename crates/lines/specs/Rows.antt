@@ -15,41 +15,65 @@ use Rattle.lines.specs.Operands.{operand_of}
 use Rattle.lines.specs.Items.{kind_is, kind_within}
 use Rattle.lines.specs.declared.Items.{Items}
 
--- At most two operands.
-unfoldable pub all_small : List Kind → Bool
+abbrev pub operand_count : Kind → ℕ
+operand_count k = length k.operands
+
+-- A word of at most 7 bytes, and at most two operands.
+unfoldable pub all_bytes : List ℕ → Bool
 unfolding both
+all_bytes [] = true
+all_bytes (b ∷ w) = both (ltb b 256) (all_bytes w)
+
+unfoldable pub is_small : Kind → Bool
+unfolding both all_bytes
+is_small k = both (leb (operand_count k) 2) (both (leb (length k.word) 7) (all_bytes k.word))
+
+unfoldable pub all_small : List Kind → Bool
+unfolding both is_small
 all_small [] = true
-all_small (k ∷ ks) = both (leb (length k.operands) 2) (all_small ks)
+all_small (k ∷ ks) = both (is_small k) (all_small ks)
 
--- Few kinds of at most two operands.
-unfoldable pub is_small : List Kind → Bool
+-- Few kinds, all of them small.
+unfoldable pub are_few : List Kind → Bool
 unfolding both all_small
-is_small ks = both (leb (length ks) 18) (all_small ks)
+are_few ks = both (leb (length ks) 18) (all_small ks)
 
-pub small_forms : is_small form_kinds ≡ true
-unfolding form_kinds is_small all_small both
+pub small_forms : all_small form_kinds ≡ true
+unfolding form_kinds all_small
 small_forms = refl
 
-pub small_steps : is_small step_kinds ≡ true
-unfolding step_kinds is_small all_small both
+pub small_steps : all_small step_kinds ≡ true
+unfolding step_kinds all_small
 small_steps = refl
 
-pub small_logics : is_small logic_kinds ≡ true
-unfolding logic_kinds is_small all_small both
+pub small_logics : all_small logic_kinds ≡ true
+unfolding logic_kinds all_small
 small_logics = refl
 
-pub few_kinds : (kinds : List Entry) → is_small (listed kinds) ≡ true → length kinds ≤ 18
-unfolding is_small
+pub few_forms : are_few form_kinds ≡ true
+unfolding form_kinds are_few
+few_forms = refl
+
+pub few_steps : are_few step_kinds ≡ true
+unfolding step_kinds are_few
+few_steps = refl
+
+pub few_logics : are_few logic_kinds ≡ true
+unfolding logic_kinds are_few
+few_logics = refl
+
+pub few_kinds : (kinds : List Entry) → are_few (listed kinds) ≡ true → length kinds ≤ 18
+unfolding are_few
 few_kinds kinds e = simp length-map at (leb-true (length (listed kinds)) 18 (both_true _ _ e).0)
 
-few_each : (ks : List Kind) → all_small ks ≡ true → (k : ℕ) → length (kind_in ks k).operands ≤ 2
-unfolding all_small kind_in
+few_each : (ks : List Kind) → all_small ks ≡ true → (k : ℕ) → operand_count (kind_in ks k) ≤ 2
+unfolding all_small is_small kind_in
 few_each [] e k = omega arith
-few_each (c ∷ cs) e zero = leb-true (length c.operands) 2 (both_true _ _ e).0
+few_each (c ∷ cs) e zero = leb-true (operand_count c) 2 (both_true _ _ (both_true _ _ e).0).0
 few_each (c ∷ cs) e (suc k) = few_each cs (both_true _ _ e).1 k
 
-pub few_operands : (ks : List Kind) → is_small ks ≡ true → (k : ℕ) → length (kind_in ks k).operands ≤ 2
-unfolding is_small
+pub few_operands : (ks : List Kind) → are_few ks ≡ true → (k : ℕ) → length (kind_in ks k).operands ≤ 2
+unfolding are_few
 few_operands ks e k = few_each ks (both_true _ _ e).1 k
 
 -- Two operands and what is behind them.
@@ -145,7 +169,7 @@ operands_is [] k d h = absurd (omega arith)
 operands_is (c ∷ cs) zero d h = length-map c.operands.now sort_of
 operands_is (c ∷ cs) (suc k) d h = operands_is cs k d (omega arith)
 
-module _ (kinds : List Entry) (small : is_small (listed kinds) ≡ true) (s w : List ℕ) (k : ℕ) (d : Entry)
+module _ (kinds : List Entry) (small : are_few (listed kinds) ≡ true) (s w : List ℕ) (k : ℕ) (d : Entry)
     (stands : Some w ≡ slice_get (items s) 0) (found : kind_answer (kind_from 0 (listed kinds) w) ≡ Some k) where
   abbrev wanted : ℕ
   wanted = length (get_or kinds k d).operands.now

@@ -11,7 +11,7 @@ ghost use Rattle.common.specs.Kinds.{listed};
 ghost use Rattle.lines.specs.Parts.{value_of, rest_of};
 ghost use Rattle.lines.specs.Answers.{number_answer, row_answer, kind_answer};
 ghost use Rattle.lines.specs.Items.{has_word};
-ghost use Rattle.lines.specs.Rows.{is_small};
+ghost use Rattle.lines.specs.Rows.{are_few};
 ghost use Rattle.lines.specs.Operands.{shown, operand_of};
 
 use common::kinds::{Kind, form_kinds, logic_kinds, step_kinds};
@@ -102,7 +102,7 @@ fn find_kind(kinds: &[Kind], word: &[u8]) -> Option<usize>
 // The number of that kind.
 #[tactic(auto, using(crate::specs::Items::kind_is, crate::specs::Items::kind_within, crate::specs::Rows::few_kinds))]
 fn kind_number(kinds: &[Kind], word: &[u8]) -> Option<u16>
-    requires { is_small (listed kinds.now) ≡ true }
+    requires { are_few (listed kinds.now) ≡ true }
     ensures { result ≡ kind_answer (kind_from 0 (listed kinds.now) word.now) }
 {
     let at = find_kind(kinds, word)?;
@@ -124,7 +124,7 @@ fn operand(item: Option<&[u8]>, wanted: bool) -> Option<u32>
 
 // A kind's word, and then as many numbers as the kind has operands.
 fn row_in(kinds: &[Kind], value: &[u8]) -> Option<Items>
-    requires { is_small (listed kinds.now) ≡ true }
+    requires { are_few (listed kinds.now) ≡ true }
     ensures { result ≡ row_answer (row_in (listed kinds.now) value.now) }
 {
     let mut items = value.split(|byte| *byte == b' ');
@@ -141,7 +141,7 @@ fn row_in(kinds: &[Kind], value: &[u8]) -> Option<Items>
 }
 
 // The number of the logic whose word a value is.
-#[tactic(auto, using(crate::specs::Rows::small_logics))]
+#[tactic(auto, using(crate::specs::Rows::few_logics))]
 pub fn logic_number(value: &[u8]) -> Option<u16>
     ensures { result ≡ kind_answer (kind_from 0 logic_kinds value.now) }
 {
@@ -149,7 +149,7 @@ pub fn logic_number(value: &[u8]) -> Option<u16>
 }
 
 // The value of a `form=` line: this and the two beside it say which table of the definition they promise.
-#[tactic(auto, using(crate::specs::Rows::small_forms))]
+#[tactic(auto, using(crate::specs::Rows::few_forms))]
 pub fn form_row(value: &[u8]) -> Option<Items>
     ensures { result ≡ row_answer (row_in form_kinds value.now) }
 {
@@ -157,7 +157,7 @@ pub fn form_row(value: &[u8]) -> Option<Items>
 }
 
 // The value of a `step=` line.
-#[tactic(auto, using(crate::specs::Rows::small_steps))]
+#[tactic(auto, using(crate::specs::Rows::few_steps))]
 pub fn step_row(value: &[u8]) -> Option<Items>
     ensures { result ≡ row_answer (row_in step_kinds value.now) }
 {
