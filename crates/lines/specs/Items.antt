@@ -77,13 +77,16 @@ kind_is kinds w = go (ltb (place w kinds) (length kinds)) refl
         rw (kind_found kinds w 0 (ltb-true _ _ e)) (ap {B = Optional ℕ} Some z)
     go false e = rw (kind_none kinds w 0 (ltb-false _ _ e)) refl
 
-pub kind_within : (kinds : List Kind) (w : List ℕ) (k : ℕ) → position (has_word w) kinds ≡ Some k → k < length kinds
-kind_within kinds w k e = go (ltb (place w kinds) (length kinds)) refl e
+pub place_within : {A : Type 0} (p : A → Bool) (xs : List A) (k : ℕ) → position p xs ≡ Some k → k < length xs
+place_within p xs k e = go (ltb (position_or_len p xs) (length xs)) refl e
   where
-    go : (b : Bool) → ltb (place w kinds) (length kinds) ≡ b
-        → ◌≡◌ {A = Optional ℕ} (cond b (Some (place w kinds)) None) (Some k) → k < length kinds
-    go true d h = let z : place w kinds ≡ k = cc in omega (arith, z, ltb-true _ _ d)
+    go : (b : Bool) → ltb (position_or_len p xs) (length xs) ≡ b
+        → ◌≡◌ {A = Optional ℕ} (cond b (Some (position_or_len p xs)) None) (Some k) → k < length xs
+    go true d h = let z : position_or_len p xs ≡ k = cc in omega (arith, z, ltb-true _ _ d)
     go false d h = absurd (cc)
+
+pub kind_within : (kinds : List Kind) (w : List ℕ) (k : ℕ) → position (has_word w) kinds ≡ Some k → k < length kinds
+kind_within kinds w k e = place_within (has_word w) kinds k e
 
 -- The items of a value are its parts between the spaces.
 onto_is : (c : ℕ) (ws : List (List ℕ)) → onto_first c ws ≡ std.onto_first c ws

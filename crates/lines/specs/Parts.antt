@@ -55,7 +55,7 @@ unfolding line value_of rest_of
 line_parts l refusal i s e = cut_parts l refusal i (suc (line_stop l s)) (cut 10 s) e
 
 -- The first byte b, met and not met.
-up_to_cons : (b c : ℕ) (s : List ℕ) → up_to b (c ∷ s) ≡ cond (eqb c b) 0 (suc (up_to b s))
+pub up_to_cons : (b c : ℕ) (s : List ℕ) → up_to b (c ∷ s) ≡ cond (eqb c b) 0 (suc (up_to b s))
 up_to_cons b c s = go (eqb c b)
   where
     go : (t : Bool) → cond (not t) (1 + up_to b s) 0 ≡ cond t 0 (suc (up_to b s))

@@ -1,19 +1,24 @@
 -- A value by a table of kinds: its word, then its operands, then nothing.
-use Rattle.std.specs.Prelude.{ℕ, zero, suc, ◌≤◌, ◌<◌, ◌≡◌, refl, List, [], ◌∷◌, Bool, true, false, leb, ltb, length, get_or, drop, slice_get, Option as Optional, None, Some}
+use Rattle.std.specs.Prelude.{ℕ, zero, suc, ◌+◌, ◌≤◌, ◌<◌, ◌≡◌, refl, List, [], ◌∷◌, Bool, true, false, leb, ltb, eqb, cond, length, map, get_or, drop, position, slice_get, Option as Optional, None, Some}
 use Rattle.std.specs.Option.{is_some}
-use Rattle.std.proofs.Common.{arith, leb-true, ne_eqb, sym, ◌∙◌}
+use Rattle.std.proofs.Common.{arith, ap, leb-true, ltb-true, ltb-false, ne_eqb, sym, ◌∙◌}
 use Rattle.std.proofs.lemmas.List.{length-map}
 use Rattle.std.proofs.Math.Option.{Option, none, some}
 use Rattle.scope.specs.Logic.Form.{both}
 use Rattle.scope.specs.Tools.Tests.{never, both_true}
 use Rattle.scope.specs.File.Number.{number}
-use Rattle.scope.specs.File.Kinds.{Kind, kind_in, kind_from, items, onto_numbers, numbers, kind_row, items_row, row_in, form_kinds, step_kinds, logic_kinds}
+use Rattle.scope.specs.File.Kinds.{Kind, kind_in, kind_from, same, items, onto_numbers, numbers, kind_row, items_row, row_in, form_kinds, step_kinds, logic_kinds}
 use Rattle.lines.specs.Answers.{row_answer, kind_answer, kind_some, kind_none}
 use Rattle.common.specs.Kinds.{listed, sort_of}
 use Rattle.common.specs.declared.kinds.Kind.{Kind as Entry}
 use Rattle.lines.specs.Operands.{operand_of}
-use Rattle.lines.specs.Items.{kind_is, kind_within}
+use Rattle.lines.specs.Parts.{up_to, up_to_cons}
+use Rattle.lines.specs.Codes.{AreBytes, code_of, same_codes}
+use Rattle.lines.specs.Items.{place_within, kind_is, kind_within}
 use Rattle.lines.specs.declared.Items.{Items}
+
+abbrev pub codes_of : List Kind → List ℕ
+codes_of ks = map (λ (k : Kind). code_of k.word) ks
 
 abbrev pub operand_count : Kind → ℕ
 operand_count k = length k.operands
@@ -75,6 +80,69 @@ few_each (c ∷ cs) e (suc k) = few_each cs (both_true _ _ e).1 k
 pub few_operands : (ks : List Kind) → are_few ks ≡ true → (k : ℕ) → length (kind_in ks k).operands ≤ 2
 unfolding are_few
 few_operands ks e k = few_each ks (both_true _ _ e).1 k
+
+-- The place of a word's code is that of the word.
+bytes_each : (w : List ℕ) → all_bytes w ≡ true → AreBytes w
+unfolding all_bytes
+bytes_each [] e i = omega arith
+bytes_each (b ∷ w) e zero = ltb-true b 256 (both_true _ _ e).0
+bytes_each (b ∷ w) e (suc i) = bytes_each w (both_true _ _ e).1 i
+
+word_code : (c : Kind) (w : List ℕ) → is_small c ≡ true → AreBytes w → same c.word w ≡ eqb (code_of c.word) (code_of w)
+unfolding is_small
+word_code c w e f =
+    let t = both_true (leb (length c.word) 7) (all_bytes c.word) (both_true _ _ e).1 in
+    sym (same_codes c.word w (bytes_each c.word t.1) f (leb-true (length c.word) 7 t.0))
+
+module _ (w : List ℕ) (f : AreBytes w) where
+  code_found : (ks : List Kind) (k : ℕ) → all_small ks ≡ true → up_to (code_of w) (codes_of ks) < length ks
+      → kind_from k ks w ≡ some (k + up_to (code_of w) (codes_of ks))
+  unfolding kind_from all_small
+  code_found [] k a h = absurd (omega arith)
+  code_found (c ∷ cs) k a h =
+      rw (word_code c w (both_true _ _ a).0 f, up_to_cons (code_of w) (code_of c.word) (codes_of cs))
+      (go (eqb (code_of c.word) (code_of w)) (rw (up_to_cons (code_of w) (code_of c.word) (codes_of cs)) at h)
+      (code_found cs (suc k) (both_true _ _ a).1))
+    where
+      go : (b : Bool) → cond b 0 (suc (up_to (code_of w) (codes_of cs))) < suc (length cs)
+          → (up_to (code_of w) (codes_of cs) < length cs → kind_from (suc k) cs w ≡ some (suc k + up_to (code_of w) (codes_of cs)))
+          → cond b (some k) (kind_from (suc k) cs w) ≡ some (k + cond b 0 (suc (up_to (code_of w) (codes_of cs))))
+      go true h more = let e : k ≡ k + 0 = omega arith in ap some e
+      go false h more =
+          let e : suc k + up_to (code_of w) (codes_of cs) ≡ k + suc (up_to (code_of w) (codes_of cs)) = omega arith in
+          more (omega arith) ∙ ap some e
+
+  code_none : (ks : List Kind) (k : ℕ) → all_small ks ≡ true → length ks ≤ up_to (code_of w) (codes_of ks) → kind_from k ks w ≡ none
+  unfolding kind_from all_small
+  code_none [] k a h = refl
+  code_none (c ∷ cs) k a h =
+      rw (word_code c w (both_true _ _ a).0 f)
+      (go (eqb (code_of c.word) (code_of w)) (rw (up_to_cons (code_of w) (code_of c.word) (codes_of cs)) at h)
+      (code_none cs (suc k) (both_true _ _ a).1))
+    where
+      go : (b : Bool) → suc (length cs) ≤ cond b 0 (suc (up_to (code_of w) (codes_of cs)))
+          → (length cs ≤ up_to (code_of w) (codes_of cs) → kind_from (suc k) cs w ≡ none) → cond b (some k) (kind_from (suc k) cs w) ≡ none
+      go true h more = absurd (omega arith)
+      go false h more = more (omega arith)
+
+-- So a code that is found is the kind's, and one of few.
+module _ (ks : List Kind) (few : are_few ks ≡ true) (cs : List ℕ) (coded : cs ≡ codes_of ks) where
+  pub code_is : (w : List ℕ) → AreBytes w → (c : ℕ) → c ≡ code_of w → position (λ d. eqb d c) cs ≡ kind_answer (kind_from 0 ks w)
+  unfolding are_few kind_answer
+  code_is w f c e = rw (coded, e, length-map) (go (both_true _ _ few).1 (ltb (up_to (code_of w) (codes_of ks)) (length ks)) refl)
+    where
+      go : all_small ks ≡ true → (b : Bool) → ltb (up_to (code_of w) (codes_of ks)) (length ks) ≡ b
+          → cond b (Some (up_to (code_of w) (codes_of ks))) None ≡ kind_answer (kind_from 0 ks w)
+      go small true d =
+          let z : up_to (code_of w) (codes_of ks) ≡ 0 + up_to (code_of w) (codes_of ks) = omega arith in
+          rw (code_found w f ks 0 small (ltb-true _ _ d)) (ap {B = Optional ℕ} Some z)
+      go small false d = rw (code_none w f ks 0 small (ltb-false _ _ d)) refl
+
+  pub code_within : (c k : ℕ) → position (λ d. eqb d c) cs ≡ Some k → k < 18
+  unfolding are_few
+  code_within c k e =
+      let l : length cs ≡ length ks = rw coded (length-map ks _) in
+      omega (arith, l, leb-true (length ks) 18 (both_true _ _ few).0, place_within (λ d. eqb d c) cs k e)
 
 -- Two operands and what is behind them.
 unfoldable pub row_read : ℕ → Optional ℕ → Optional ℕ → Optional (List ℕ) → Optional Items

@@ -10,8 +10,8 @@ ghost use Rattle.scope.specs.File.Stops.{most_digits, number_stop};
 ghost use Rattle.common.specs.Kinds.{listed};
 ghost use Rattle.lines.specs.Parts.{value_of, rest_of};
 ghost use Rattle.lines.specs.Answers.{number_answer, row_answer, kind_answer};
-ghost use Rattle.lines.specs.Items.{has_word};
-ghost use Rattle.lines.specs.Rows.{are_few};
+ghost use Rattle.lines.specs.Codes.{code_of};
+ghost use Rattle.lines.specs.Rows.{are_few, codes_of};
 ghost use Rattle.lines.specs.Operands.{shown, operand_of};
 
 use common::kinds::{Kind, form_kinds, logic_kinds, step_kinds};
@@ -92,20 +92,73 @@ pub fn read_number(text: &[u8]) -> Result<u32, usize>
     Ok(value)
 }
 
-// The place of the kind with this word.
-fn find_kind(kinds: &[Kind], word: &[u8]) -> Option<usize>
-    ensures { result ≡ position (has_word word.now) kinds.now }
+// The codes of the words of each table of kinds, in its order: a word is compared once with each kind and not byte by byte.
+static FORM_CODES: [u64; 8] = [
+    0x170, // p
+    0x1746f70, // top
+    0x1626f74, // bot
+    0x1616e64, // and
+    0x16f72, // or
+    0x1696d70, // imp
+    0x173617973, // says
+    0x17366, // sf
+];
+
+static STEP_CODES: [u64; 18] = [
+    0x1616e64, // and
+    0x16f7231, // or1
+    0x16f7232, // or2
+    0x1696d70, // imp
+    0x173617973, // says
+    0x1746f70, // top
+    0x17366, // sf
+    0x1757365, // use
+    0x16c656674, // left
+    0x17269676874, // right
+    0x1746f, // to
+    0x1686974, // hit
+    0x170757368, // push
+    0x173706c6974, // split
+    0x163617365, // case
+    0x1616273757264, // absurd
+    0x164726f70, // drop
+    0x16e6f7465, // note
+];
+
+static LOGIC_CODES: [u64; 2] = [
+    0x1706c61696e, // plain
+    0x1756e6974, // unit
+];
+
+// A word as one number: its bytes as digits to the base 256 behind a leading 1; 0 for a word of more than 7 bytes.
+fn code_of(word: &[u8]) -> u64
+    ensures { result ≡ code_of word.now }
 {
-    kinds.iter().position(|kind| kind.word == word)
+    if 7 < word.len() {
+        return 0;
+    }
+    let mut code = 1;
+    for byte in word {
+        code = code * 256 + u64::from(*byte);
+    }
+    code
 }
 
-// The number of that kind.
-#[tactic(auto, using(crate::specs::Items::kind_is, crate::specs::Items::kind_within, crate::specs::Rows::few_kinds))]
-fn kind_number(kinds: &[Kind], word: &[u8]) -> Option<u16>
-    requires { are_few (listed kinds.now) ≡ true }
+// The place of the kind whose word has this code.
+fn find_code(codes: &[u64], code: u64) -> Option<usize>
+    ensures { result ≡ position (λ c. c == code) codes.now }
+{
+    codes.iter().position(|c| *c == code)
+}
+
+// The number of the kind with this word. Inlined, so that the codes are constants where they are compared.
+#[inline(always)]
+fn kind_number(kinds: &[Kind], codes: &[u64], word: &[u8]) -> Option<u16>
+    requires few { are_few (listed kinds.now) ≡ true }
+    requires coded { codes.now ≡ codes_of (listed kinds.now) }
     ensures { result ≡ kind_answer (kind_from 0 (listed kinds.now) word.now) }
 {
-    let at = find_kind(kinds, word)?;
+    let at = find_code(codes, code_of(word))?;
     // No table is so long that a u16 does not hold its places.
     Some(at as u16)
 }
@@ -123,13 +176,15 @@ fn operand(item: Option<&[u8]>, wanted: bool) -> Option<u32>
 }
 
 // A kind's word, and then as many numbers as the kind has operands.
-fn row_in(kinds: &[Kind], value: &[u8]) -> Option<Items>
-    requires { are_few (listed kinds.now) ≡ true }
+#[inline(always)]
+fn row_in(kinds: &[Kind], codes: &[u64], value: &[u8]) -> Option<Items>
+    requires few { are_few (listed kinds.now) ≡ true }
+    requires coded { codes.now ≡ codes_of (listed kinds.now) }
     ensures { result ≡ row_answer (row_in (listed kinds.now) value.now) }
 {
     let mut items = value.split(|byte| *byte == b' ');
     let word = items.next()?;
-    let kind = kind_number(kinds, word)?;
+    let kind = kind_number(kinds, codes, word)?;
     let wanted = kinds[kind as usize].operands.len();
     // Two operands with names of their own: no list to go over.
     let left = operand(items.next(), 0 < wanted)?;
@@ -141,25 +196,25 @@ fn row_in(kinds: &[Kind], value: &[u8]) -> Option<Items>
 }
 
 // The number of the logic whose word a value is.
-#[tactic(auto, using(crate::specs::Rows::few_logics))]
+#[tactic(auto, using(crate::specs::Rows::few_logics), unfolding(scope::specs::File::Kinds::logic_kinds, crate::specs::Codes::code_of, crate::specs::Codes::code_from))]
 pub fn logic_number(value: &[u8]) -> Option<u16>
     ensures { result ≡ kind_answer (kind_from 0 logic_kinds value.now) }
 {
-    kind_number(logic_kinds(), value)
+    kind_number(logic_kinds(), &LOGIC_CODES, value)
 }
 
 // The value of a `form=` line: this and the two beside it say which table of the definition they promise.
-#[tactic(auto, using(crate::specs::Rows::few_forms))]
+#[tactic(auto, using(crate::specs::Rows::few_forms), unfolding(scope::specs::File::Kinds::form_kinds, crate::specs::Codes::code_of, crate::specs::Codes::code_from))]
 pub fn form_row(value: &[u8]) -> Option<Items>
     ensures { result ≡ row_answer (row_in form_kinds value.now) }
 {
-    row_in(form_kinds(), value)
+    row_in(form_kinds(), &FORM_CODES, value)
 }
 
 // The value of a `step=` line.
-#[tactic(auto, using(crate::specs::Rows::few_steps))]
+#[tactic(auto, using(crate::specs::Rows::few_steps), unfolding(scope::specs::File::Kinds::step_kinds, crate::specs::Codes::code_of, crate::specs::Codes::code_from))]
 pub fn step_row(value: &[u8]) -> Option<Items>
     ensures { result ≡ row_answer (row_in step_kinds value.now) }
 {
-    row_in(step_kinds(), value)
+    row_in(step_kinds(), &STEP_CODES, value)
 }
