@@ -24,7 +24,8 @@ pub struct Items {
     pub right: u32,
 }
 
-// The place of the first `byte`.
+// The place of the first `byte`. Called and not inlined: within larger loops this one would take more moves a byte.
+#[inline(never)]
 fn find_byte(text: &[u8], byte: u8) -> Option<usize>
     ensures { result ≡ position (λ b. b == byte) text.now }
 {
