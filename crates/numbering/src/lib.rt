@@ -5,12 +5,14 @@
 ghost use Rattle.std.specs.Prelude.{◌≡◌, min};
 ghost use Rattle.scope.specs.Limits.{most_formulas};
 ghost use Rattle.scope.specs.Call.Tables.{unpack, form_entry};
+ghost use Rattle.scope.specs.File.Refusals.{same_row};
 ghost use Rattle.common.specs.Rows.{as_row};
+ghost use Rattle.classes.specs.Rows.{form_row};
 ghost use Rattle.numbering.specs.Slots.{head_of, key_of, place_in, kept_at, earlier_at, earlier_of};
 ghost use Rattle.numbering.specs.Repeats.{first_repeat};
 ghost use Rattle.numbering.specs.Given.{given_at, written_at};
 
-use common::{MOST_FORMULAS, Row};
+use common::{MOST_FORMULAS, Row, value_at};
 
 // The slots: the heads, and two under each row.
 const HEADS: usize = 1024;
@@ -57,6 +59,17 @@ fn key_of(row: Row) -> usize
     usize::from(row.left) + usize::from(row.right) * 65536 + usize::from(row.kind) * 4294967296
 }
 
+// Whether row number i of the table is this one: its numbers are read one by one, up to the first that differs.
+#[tactic(auto, unfolding(scope::specs::File::Refusals::same_row, scope::specs::Logic::Form::both))]
+fn is_row(forms: &[u16], i: u16, row: Row) -> bool
+    ensures { result ≡ same_row (form_row forms.now i) (as_row row) }
+{
+    let at = 3 * usize::from(i);
+    value_at(forms, at, 0) == row.kind
+        && value_at(forms, at + 1, 0) == row.left
+        && value_at(forms, at + 2, 0) == row.right
+}
+
 // Where a row is among the rows that the slots keep. The table is lent beside them: its owner writes rows between two calls.
 pub fn find_row(forms: &[u16], slots: &[u16; SLOTS], row: Row) -> Place
     ensures { result ≡ place_in forms.now slots.now (as_row row) }
@@ -64,13 +77,12 @@ pub fn find_row(forms: &[u16], slots: &[u16; SLOTS], row: Row) -> Place
     let mut key = key_of(row);
     let mut slot = head_of(row);
     for turn in 0..TURNS {
-        let entry = common::value_at(slots, slot, 0);
+        let entry = value_at(slots, slot, 0);
         if entry == 0 {
             return Place::Free(slot);
         }
         let i = entry - 1;
-        let kept = common::row_at(forms, i);
-        if kept == row {
+        if is_row(forms, i, row) {
             return Place::Taken(i);
         }
         slot = HEADS + 2 * usize::from(i) + key % 2;

@@ -5,7 +5,7 @@ use mathlib.Core.Bool.{true, false}
 use Rattle.scope.specs.File.Refusals.{same_row}
 use Rattle.common.specs.Rows.{as_row}
 use Rattle.classes.specs.Rows.{form_row}
-use Rattle.numbering.specs.Slots.{most_turns, walk_begins, walk_ends, walk_meets, walk_goes, walk_out, kept_same}
+use Rattle.numbering.specs.Slots.{most_turns, walk_begins, walk_ends, walk_meets, walk_goes, walk_out}
 use Rattle.numbering.proofs.find_row.Goals as goal
 
 pub loop-turn-init : goal.loop-turn-init
@@ -24,14 +24,14 @@ returns-then-entry-eq0 c =
     (sym c.value_at-entry.ensures ∙ c.if-entry-eq0.true)) ∙
     l.invariant
 
-pub returns-then-eq : goal.returns-then-eq
-returns-then-eq c =
+pub returns-then-is_row : goal.returns-then-is_row
+returns-then-is_row c =
     let a = c.args in
     let l = c.loop-turn in
     let left : 0 < most_turns - l.turn = omega arith in
     let some : 0 < c.value_at-entry.result = omega arith in
     let same : same_row (form_row a.forms.now (c.value_at-entry.result - 1)) (as_row a.row) ≡ true =
-    kept_same a.forms.now _ a.row c.row_at-kept.ensures c.eq.ensures ∙ c.if-eq.true in
+    sym c.is_row.ensures ∙ c.if-is_row.true in
     sym
     (walk_meets a.forms.now a.slots.now (as_row a.row) (most_turns - l.turn) l.key l.slot left c.value_at-entry.result
     c.value_at-entry.ensures some same) ∙
@@ -44,7 +44,7 @@ loop-turn-preserved c =
     let left : 0 < most_turns - l.turn = omega arith in
     let some : 0 < c.value_at-entry.result = omega arith in
     let other : same_row (form_row a.forms.now (c.value_at-entry.result - 1)) (as_row a.row) ≡ false =
-    kept_same a.forms.now _ a.row c.row_at-kept.ensures c.eq.ensures ∙ c.if-eq.false in
+    sym c.is_row.ensures ∙ c.if-is_row.false in
     let fewer : most_turns - (l.turn + 1) ≡ most_turns - l.turn - 1 = omega arith in
     rw (fewer, c.from.ensures)
     (sym
