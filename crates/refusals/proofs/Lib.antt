@@ -1,2 +1,1 @@
-pub mod Ands
 pub mod Known

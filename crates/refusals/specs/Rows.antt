@@ -1,14 +1,14 @@
 -- The refusals of a row, kind by kind: what each kind demands of its operands, and that a row that passes has small numbers.
 use Prim.Native.Nat.{ℕ, zero, suc, ◌≤◌, ◌<◌}
 use Rattle.std.proofs.Common.{arith, ap, sym, ◌∙◌, le-ltb, ltb-true, ltb-false, leb-true, eqb-true}
-use Rattle.std.specs.Prelude.{◌≡◌, Bool, true, false, List, ltb, leb, eqb, get_or}
+use Rattle.std.specs.Prelude.{◌≡◌, Bool, true, false, not, List, map, length, ltb, leb, eqb, get_or, Option, Some, None}
 use Rattle.std.proofs.Math.Path.{refl}
 use Rattle.std.proofs.lemmas.Bool.{eqb-false}
 use Rattle.scope.specs.Limits.{most_step_number}
 use Rattle.scope.specs.Logic.Form.{both}
 use Rattle.scope.specs.Tools.Tests.{both_true, both_yes}
 use Rattle.scope.specs.File.Request.{Row}
-use Rattle.scope.specs.File.Kinds.{kind_in, form_kinds, step_kinds}
+use Rattle.scope.specs.File.Kinds.{Kind, kind_in, form_kinds, step_kinds}
 use Rattle.scope.specs.File.Refusals.{demand, in_range, is_earlier, pass, rest_zero, row_refusal, step_refusal}
 
 abbrev pub row : ℕ → ℕ → ℕ → Row
@@ -72,7 +72,7 @@ module _ (principals atoms i l r : ℕ) where
   form_7 = simp both_yes
 
   -- An unknown kind.
-  form_over : (k : ℕ) → 8 ≤ k → form_refused k ≡ 3
+  pub form_over : (k : ℕ) → 8 ≤ k → form_refused k ≡ 3
   unfolding row_refusal form_kinds demand
   form_over k h = rw (le-ltb k 8 h) refl
 
@@ -133,6 +133,10 @@ module _ (principals atoms i l r : ℕ) where
         (suc (suc (suc (suc (suc (suc (suc (suc k)))))))) (λ q. omega (arith, q)) (λ q. omega (arith, q)) (λ q. omega (arith, q))
         (λ q. omega (arith, q)) (λ q. omega (arith, q)) (λ q. omega (arith, q)) (λ q. omega (arith, q)) (λ q. omega (arith, q)) in
         absurd (omega arith)
+
+-- Whether the steps of a kind carry a number; none where no kind has the number.
+unfoldable pub number_carried : ℕ → Option Bool
+number_carried k = get_or (map (λ (x : Kind). Some (not (eqb (length x.operands) 0))) step_kinds) k None
 
 module _ (l r : ℕ) where
   abbrev step_refused : ℕ → ℕ

@@ -3,45 +3,13 @@
 
 ghost use Rattle.std.specs.Prelude.{◌≡◌};
 ghost use Rattle.scope.specs.File.Kinds.{form_kinds};
-ghost use Rattle.scope.specs.File.Refusals.{demand, in_range, is_earlier, row_refusal, step_refusal};
-ghost use Rattle.common.specs.Kinds.{listed, sort_of};
+ghost use Rattle.scope.specs.File.Refusals.{demand, row_refusal, step_refusal};
+ghost use Rattle.common.specs.Rows.{kind_of};
 ghost use Rattle.common.specs.Refused.{refusal_in};
-ghost use Rattle.refusals.specs.Rows.{row};
+ghost use Rattle.refusals.specs.Rows.{row, number_carried};
 
-use common::kinds::{Kind, Sort, form_kinds, step_kinds};
-use common::{MOST_STEP_NUMBER, Refusal};
-
-// What the operands of a row are held against: the counts of principals and atoms, and the number of the row.
-#[derive(Clone, Copy)]
-struct Bounds {
-    principals: u16,
-    atoms: u16,
-    formula: u16,
-}
-
-impl Bounds {
-    #[tactic(auto, unfolding(scope::specs::File::Refusals::in_range))]
-    fn in_range(self, sort: Sort, n: u32) -> bool
-        ensures { result ≡ in_range self.principals self.atoms (sort_of sort) n }
-    {
-        match sort {
-            Sort::Atom => n < u32::from(self.atoms),
-            Sort::Principal => n < u32::from(self.principals),
-            Sort::Formula => true,
-            Sort::Clause | Sort::World => n <= MOST_STEP_NUMBER,
-        }
-    }
-
-    #[tactic(auto, unfolding(scope::specs::File::Refusals::is_earlier))]
-    fn is_earlier(self, sort: Sort, n: u32) -> bool
-        ensures { result ≡ is_earlier self.formula (sort_of sort) n }
-    {
-        match sort {
-            Sort::Formula => n < u32::from(self.formula),
-            Sort::Atom | Sort::Principal | Sort::Clause | Sort::World => true,
-        }
-    }
-}
+use common::kinds::step_kinds;
+use common::{FormKind, MOST_STEP_NUMBER, Refusal};
 
 // 3 before 4: an unused operand that is not 0, a number outside its range, a formula that is no earlier one.
 #[tactic(auto, unfolding(scope::specs::File::Refusals::demand, common::specs::Refused::refusal_in, common::specs::Refused::number_of))]
@@ -57,35 +25,16 @@ fn check_operands(unused: bool, ranges: bool, earlier: bool) -> Result<(), Refus
     Ok(())
 }
 
-// The refusal of a row by the kinds of a table.
-fn check_row(
-    kinds: &[Kind],
-    kind: usize,
-    left: u32,
-    right: u32,
-    bounds: Bounds,
-) -> Result<(), Refusal>
-    ensures { refusal_in result ≡ row_refusal (listed kinds.now) bounds.principals bounds.atoms bounds.formula (row kind left right) }
+// The kind of a formula; none where no kind has the number.
+#[tactic(auto, using(crate::proofs::Known::kind_past))]
+fn form_kind(kind: usize) -> Option<FormKind>
+    ensures { result ≡ kind_of kind }
 {
-    let Some(known) = kinds.get(kind) else {
-        return Err(Refusal::Range);
-    };
-    match known.operands {
-        [] => check_operands(left == 0 && right == 0, true, true),
-        [a] => check_operands(
-            right == 0,
-            bounds.in_range(*a, left),
-            bounds.is_earlier(*a, left),
-        ),
-        [a, b, ..] => {
-            let ranges = bounds.in_range(*a, left) && bounds.in_range(*b, right);
-            let earlier = bounds.is_earlier(*a, left) && bounds.is_earlier(*b, right);
-            check_operands(true, ranges, earlier)
-        }
-    }
+    FormKind::of(u16::try_from(kind).ok()?)
 }
 
 // The refusal of formula number `formula`. Its numbers stand apart, for those of a line may be larger than those of a table's row.
+#[tactic(auto, using(crate::proofs::Known::form_known), unfolding(scope::specs::Logic::Form::both, common::specs::Refused::refusal_in, common::specs::Refused::number_of))]
 pub fn check_form(
     kind: usize,
     left: u32,
@@ -96,23 +45,36 @@ pub fn check_form(
 ) -> Result<(), Refusal>
     ensures { refusal_in result ≡ row_refusal form_kinds principals atoms formula (row kind left right) }
 {
-    let bounds = Bounds {
-        principals,
-        atoms,
-        formula,
-    };
-    check_row(form_kinds(), kind, left, right, bounds)
+    let p = u32::from(principals);
+    let i = u32::from(formula);
+    match form_kind(kind) {
+        Some(FormKind::Atom) => check_operands(right == 0, left < u32::from(atoms), true),
+        Some(FormKind::Top | FormKind::Bot) => check_operands(left == 0 && right == 0, true, true),
+        Some(FormKind::And | FormKind::Or | FormKind::Imp) => {
+            check_operands(true, true, left < i && right < i)
+        }
+        Some(FormKind::Says) => check_operands(true, left < p, right < i),
+        Some(FormKind::Sf) => check_operands(true, left < p && right < p, true),
+        None => Err(Refusal::Range),
+    }
+}
+
+// Whether a step of this kind carries a number; none where no kind has the number.
+fn carries_number(kind: usize) -> Option<bool>
+    ensures { result ≡ number_carried kind }
+{
+    let known = step_kinds().get(kind)?;
+    Some(!known.operands.is_empty())
 }
 
 // The refusal of a step, which names no principal, no atom and no formula.
-#[tactic(auto, unfolding(scope::specs::File::Refusals::step_refusal))]
+#[tactic(auto, using(crate::proofs::Known::step_known), unfolding(scope::specs::Logic::Form::both, common::specs::Refused::refusal_in, common::specs::Refused::number_of))]
 pub fn check_step(kind: usize, left: u32, right: u32) -> Result<(), Refusal>
     ensures { refusal_in result ≡ step_refusal (row kind left right) }
 {
-    let bounds = Bounds {
-        principals: 0,
-        atoms: 0,
-        formula: 0,
-    };
-    check_row(step_kinds(), kind, left, right, bounds)
+    match carries_number(kind) {
+        Some(true) => check_operands(right == 0, left <= MOST_STEP_NUMBER, true),
+        Some(false) => check_operands(left == 0 && right == 0, true, true),
+        None => Err(Refusal::Range),
+    }
 }
