@@ -18,12 +18,12 @@ loop-i-preserved c =
     let t = c.args.forms.now in
     let at = c.loop-i in
     let row = c.row_at-row.ensures in
-    let left : c.value_at-left.result ≡ get_or (take at.i at.classes) (get_or t (3 * at.i + 1) 0) all_classes =
-    rw (c.from.ensures, c.from-in-loop-i.ensures, row) at c.value_at-left.ensures in
-    let right : c.value_at-right.result ≡ get_or (take at.i at.classes) (get_or t (3 * at.i + 2) 0) all_classes =
-    rw (c.from.ensures, c.from-in-loop-i-2.ensures, row) at c.value_at-right.ensures in
+    let left : c.class_before-left.result.now ≡ get_or (take at.i at.classes) (get_or t (3 * at.i + 1) 0) all_classes =
+    rw (c.from.ensures, row) at c.class_before-left.ensures in
+    let right : c.class_before-right.result.now ≡ get_or (take at.i at.classes) (get_or t (3 * at.i + 2) 0) all_classes =
+    rw (c.from.ensures, row) at c.class_before-right.ensures in
     let class = rw (row, left, right) at c.row_class.ensures in
-    rw (c.from-in-loop-i-3.ensures, class) (filled_more t c.min-i-end.result at.i at.classes (omega arith) c.loop-i-test.true at.invariant)
+    rw (c.from-in-loop-i.ensures, class) (filled_more t c.min-i-end.result at.i at.classes (omega arith) c.loop-i-test.true at.invariant)
 
 pub returns : goal.returns
 returns c =
