@@ -99,7 +99,10 @@ fn check_steps(counts: Counts, steps: &[u16]) -> Result<(), Answer>
 fn zero_from(table: &[u16], from: usize) -> bool
     ensures { result ≡ list_all (λ n. eqb n 0) (drop from table.now) }
 {
-    table.iter().skip(from).all(|entry| *entry == 0)
+    let Some(rest) = table.get(from..) else {
+        return true;
+    };
+    rest.iter().all(|entry| *entry == 0)
 }
 
 fn check_past(counts: Counts, forms: &[u16], policy: &[u16], steps: &[u16]) -> Result<(), Refusal>
