@@ -9,6 +9,9 @@ mod outcome;
 mod report;
 mod tally;
 
+ghost use Rattle.std.specs.Prelude.{◌≤◌, length, IfSome};
+ghost use Rattle.std.specs.Io.KnownBytes.{Consumes};
+
 use index::Case;
 use outcome::Outcome;
 use std::fs::File;
@@ -71,7 +74,9 @@ fn run_case(rt: &impl Print, case: &Case<'_>, file: &[u8]) -> io::Result<Ran> {
 }
 
 // Reads the start of a file, as much as there is room for, where it can be opened.
-fn read_file<'a>(files: &impl Files, name: &[u8], room: &'a mut [u8]) -> Option<&'a [u8]> {
+fn read_file<'a>(files: &impl Files, name: &[u8], room: &'a mut [u8]) -> Option<&'a [u8]>
+    ensures { IfSome result (λ text. length text.now ≤ length room.old) }
+{
     let path = str::from_utf8(name).ok()?;
     let mut file = File::open(files, path).ok()?;
     Some(read_start(&mut file, room))
@@ -79,7 +84,10 @@ fn read_file<'a>(files: &impl Files, name: &[u8], room: &'a mut [u8]) -> Option<
 
 // Reads until the room is full, the input ends or a read fails, and answers what was read. A loop,
 // since std's `read_to_end` needs a heap and its `read_exact` does not say how much it read.
-fn read_start<'a>(from: &mut impl Read, room: &'a mut [u8]) -> &'a [u8] {
+fn read_start<'a, R: Read>(from: &mut R, room: &'a mut [u8]) -> &'a [u8]
+    ensures bound { length result.now ≤ length room.old }
+    ensures consumed { Consumes (R.remaining from.old) (R.remaining from.new) result.now }
+{
     let mut length = 0;
     while length < room.len() {
         let Ok(more) = from.read(&mut room[length..]) else {

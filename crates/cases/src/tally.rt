@@ -1,4 +1,5 @@
 // What came of the lines of the index, and how many there are of each kind.
+ghost use Rattle.std.specs.Prelude.{◌+◌, ◌≤◌};
 
 // What came of a line: whether judging its file gave what it wants, and, where its file was written
 // back, whether that gave the file again. The flag is no part of the option: a file that is judged
@@ -37,6 +38,8 @@ impl Tally {
 }
 
 // The count, with one more where this is so.
-fn counted(count: u64, more: bool) -> u64 {
+fn counted(count: u64, more: bool) -> u64
+    ensures { result ≤ count + 1 }
+{
     count.saturating_add(u64::from(more))
 }
