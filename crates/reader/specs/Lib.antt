@@ -3,6 +3,8 @@ pub mod Answers
 pub mod Lines
 pub mod Many
 pub mod Stored
+pub mod Got
+pub mod Columns
 pub mod Whole
 pub mod Turns
 pub mod NewRows

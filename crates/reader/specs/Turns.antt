@@ -1,14 +1,19 @@
 -- One turn of each loop over lines.
-use Rattle.std.specs.Prelude.{ℕ, suc, ◌+◌, ◌-◌, ◌<◌, ◌≡◌, List, [], ◌∷◌, ◌++◌, length}
+use Rattle.std.specs.Prelude.{ℕ, suc, ◌+◌, ◌-◌, ◌≤◌, ◌<◌, ◌≡◌, List, [], ◌∷◌, ◌++◌, length}
 use Rattle.std.proofs.Math.Nat.{sub-zero}
 use Rattle.std.proofs.Common.{arith, sym, ◌∙◌, length-append}
 use Rattle.std.proofs.Math.Path.{refl, ap}
 use Rattle.scope.specs.Call.Answer.{Answer}
 use Rattle.scope.specs.File.Line.{ok, bad, Reader, many}
 use Rattle.scope.specs.Call.Tables.{Entry, table}
+use Rattle.lines.specs.Parts.{rest_of}
 use Rattle.reader.specs.Answers.{Zero, ManyKept}
-use Rattle.reader.specs.Many.{onto, many_more, many_stop, many_end, many_start}
+use Rattle.reader.specs.Many.{onto, many_more, many_stop, many_end, many_start, tail_length, rest_tail}
 use Rattle.reader.specs.Stored.{table_none}
+
+-- A text behind a line is no longer than the text.
+pub rest_short : (s rest : List ℕ) → rest ≡ rest_of s → length rest ≤ length s
+rest_short s rest e = omega (arith, ap length e, tail_length (rest_of s) s (rest_tail s))
 
 -- A loop over n lines after i of them: the things read so far stand in the table, and what is left of the text gives the others.
 pub record Turns {A : Type 0} (entry : Entry A) (item : List A → Reader A) (n : ℕ) (text numbers rest : List ℕ) (i : ℕ) : Type 0 where
