@@ -113,7 +113,7 @@ enum peraduksi_room {
     PERADUKSI_STEPS_ROOM = 2 * PERADUKSI_MOST_STEPS
 };
 
-/* Stack that is enough below any call, in bytes; the gate takes the most, some 87,000. */
+/* Stack that is enough below any call, in bytes; the gate takes the most, some 94,500. */
 enum peraduksi_stack {
     PERADUKSI_STACK = 98304
 };

@@ -29,7 +29,7 @@ pub const STEPS_ROOM: usize = 2 * 2_048;
 /// The longest file that is read; room enough for every text that is written.
 pub const MOST_BYTES: usize = 65_536;
 
-/// Stack that is enough below any call, in bytes; the gate takes the most, some 87,000.
+/// Stack that is enough below any call, in bytes; the gate takes the most, some 94,500.
 pub const STACK: usize = 96 * 1_024;
 
 /// Reads a request file. Entries past the last one read are 0; after a refusal every table is all 0.
