@@ -171,7 +171,7 @@ pub fn put_at<T: Copy>(table: &mut [T], at: usize, value: T)
 }
 
 // A text from a place on: what passes the end is not stored. Output and place stand apart, for it promises this of any place. The texts are
-// short words: they go byte by byte, where a call that copies them in one piece would cost more.
+// short, the writer's of one byte: they go byte by byte, where a call that copies them in one piece would cost more.
 #[inline(always)]
 pub fn put_bytes(out: &mut [u8], at: usize, text: &[u8])
     ensures { out.new ≡ sets out.old at text.now }

@@ -1,4 +1,4 @@
--- The rows of all principals from a place on: how the code reads and puts them, in one piece, and what stands in them.
+-- The rows of all principals from a place on: what stands in them, how they are read and put as one piece, and past the table's end.
 use Rattle.std.specs.Prelude.{ℕ, ◌+◌, ◌<◌, ◌≤◌, ◌≡◌, refl, List, length, get_or, replicate}
 use Rattle.std.proofs.Common.{sym, ◌∙◌, zero-add, arith}
 use Rattle.std.proofs.lemmas.List.{length-replicate, get_or-replicate, get_or_past, places}
@@ -15,7 +15,7 @@ block_row r at c h =
     (fill_at (λ i. get_or r (at + i) 0) 0 principals_max (replicate principals_max 0) c h
     (rw length-replicate (omega arith)))
 
--- What the code reads, and what it puts, within the table and past its end.
+-- Read and put as a part of the table, and what is read past its end.
 pub block_read : (r : List ℕ) (at n : ℕ) {y : List ℕ} → at + principals_max ≤ length r → n ≡ principals_max → y ≡ mid_of at n r → y ≡ block r at
 block_read r at n {y} room long e =
     fill_whole (λ c. get_or r (at + c) 0) principals_max (replicate principals_max 0) y (length-replicate {A = ℕ} principals_max 0)

@@ -29,7 +29,7 @@ block_is w l p h =
     fill_paste (replicate w 0) (drop (p * w) l) 0 w (omega (arith, length-replicate {A = ℕ} w 0)) (omega (arith, length-drop (p * w) l)) ∙
     paste_front (replicate w 0) (drop (p * w) l) w (length-replicate {A = ℕ} w 0)
 
--- The entries of a place, as the code reads them, writes others there, and writes the same one place above.
+-- The entries of a place taken as a part, others pasted there, and, as the code does, the same written one place above.
 module _ (w : ℕ) (l : List ℕ) (p : ℕ) where
   width : p * w + w - p * w ≡ w
   width = omega arith

@@ -34,7 +34,7 @@ unfolding both
 both_and true y = refl
 both_and false y = refl
 
--- Rows of the code are compared number by number.
+-- Derived equality of rows is number by number.
 pub rows_equal : (a b : Compared) →
     (eqb a.kind b.kind && (eqb a.left b.left && eqb a.right b.right)) ≡ same_row (as_row a) (as_row b)
 unfolding same_row

@@ -23,7 +23,7 @@ pub row_here : (t : List ℕ) (i : ℕ) → as_row (row_at t i) ≡ form_row t i
 unfolding row_at
 row_here t i = refl
 
--- The code's test of a row against the one that stands there.
+-- Derived equality of the row that is read, as a test against the one that stands there.
 pub kept_same : (t : List ℕ) (i : ℕ) (r : Read) {there : Read} {equal : Bool} → there ≡ row_at t i →
     equal ≡ (eqb there.kind r.kind && (eqb there.left r.left && eqb there.right r.right)) → same_row (form_row t i) (as_row r) ≡ equal
 kept_same t i r {there = there} read is =
