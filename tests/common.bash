@@ -24,8 +24,8 @@ crates_under() { # NAME
 }
 
 # Has rt prove a crate, what it stands on first, and build it (`rt run` in the crate's folder, of a program, which it then runs on an
-# empty input; `rt lib`, of a library), with the flags given. Each crate that has changed gets a line on the error output when it is proved: how many of how
-# many are, its name, the seconds. Where that fails, all that rt said follows.
+# empty input; `rt lib`, of a library), with the flags given. Each crate that has changed gets a line on the error output when it is
+# proved: how many of how many are, its name, the seconds. Where that fails, all that rt said follows.
 prove() { # WORD NAME [FLAG..]
     local log=$root/target/$2.log all line crate='' began=$SECONDS under status
     local -A proved=()
