@@ -5,7 +5,7 @@ use Rattle.std.proofs.Common.{arith, ap, leb-true, ltb-true, ltb-false, ne_eqb, 
 use Rattle.std.proofs.lemmas.List.{length-map}
 use Rattle.std.proofs.Math.Option.{Option, none, some}
 use Rattle.scope.specs.Logic.Form.{both}
-use Rattle.scope.specs.Tools.Tests.{never, both_true}
+use Rattle.scope.specs.Tools.Tests.{never, both_true, both_met}
 use Rattle.scope.specs.File.Number.{number}
 use Rattle.scope.specs.File.Kinds.{Kind, kind_in, kind_from, same, items, onto_numbers, numbers, kind_row, items_row, row_in, form_kinds, step_kinds, logic_kinds}
 use Rattle.lines.specs.Answers.{row_answer, kind_answer, kind_some, kind_none}
@@ -43,6 +43,16 @@ unfoldable pub are_few : List Kind → Bool
 unfolding both all_small
 are_few ks = both (leb (length ks) 18) (all_small ks)
 
+-- At most two operands, whatever the word; and few kinds of this sort.
+unfoldable pub all_of_two : List Kind → Bool
+unfolding both
+all_of_two [] = true
+all_of_two (k ∷ ks) = both (leb (length k.operands) 2) (all_of_two ks)
+
+unfoldable pub few_of_two : List Kind → Bool
+unfolding both all_of_two
+few_of_two ks = both (leb (length ks) 18) (all_of_two ks)
+
 pub small_forms : all_small form_kinds ≡ true
 unfolding form_kinds all_small
 small_forms = refl
@@ -67,18 +77,27 @@ pub few_logics : are_few logic_kinds ≡ true
 unfolding logic_kinds are_few
 few_logics = refl
 
-pub few_kinds : (kinds : List Entry) → are_few (listed kinds) ≡ true → length kinds ≤ 18
-unfolding are_few
+all_two : (ks : List Kind) → all_small ks ≡ true → all_of_two ks ≡ true
+unfolding all_small is_small all_of_two
+all_two [] e = refl
+all_two (k ∷ ks) e = both_met _ _ (both_true _ _ (both_true _ _ e).0).0 (all_two ks (both_true _ _ e).1)
+
+pub few_two : (ks : List Kind) → are_few ks ≡ true → few_of_two ks ≡ true
+unfolding are_few few_of_two
+few_two ks e = both_met _ _ (both_true _ _ e).0 (all_two ks (both_true _ _ e).1)
+
+pub few_kinds : (kinds : List Entry) → few_of_two (listed kinds) ≡ true → length kinds ≤ 18
+unfolding few_of_two
 few_kinds kinds e = simp length-map at (leb-true (length (listed kinds)) 18 (both_true _ _ e).0)
 
-few_each : (ks : List Kind) → all_small ks ≡ true → (k : ℕ) → operand_count (kind_in ks k) ≤ 2
-unfolding all_small is_small kind_in
+few_each : (ks : List Kind) → all_of_two ks ≡ true → (k : ℕ) → length (kind_in ks k).operands ≤ 2
+unfolding all_of_two kind_in
 few_each [] e k = omega arith
-few_each (c ∷ cs) e zero = leb-true (operand_count c) 2 (both_true _ _ (both_true _ _ e).0).0
+few_each (c ∷ cs) e zero = leb-true (length c.operands) 2 (both_true _ _ e).0
 few_each (c ∷ cs) e (suc k) = few_each cs (both_true _ _ e).1 k
 
-pub few_operands : (ks : List Kind) → are_few ks ≡ true → (k : ℕ) → length (kind_in ks k).operands ≤ 2
-unfolding are_few
+pub few_operands : (ks : List Kind) → few_of_two ks ≡ true → (k : ℕ) → length (kind_in ks k).operands ≤ 2
+unfolding few_of_two
 few_operands ks e k = few_each ks (both_true _ _ e).1 k
 
 -- The place of a word's code is that of the word.
@@ -237,7 +256,7 @@ operands_is [] k d h = absurd (omega arith)
 operands_is (c ∷ cs) zero d h = length-map c.operands.now sort_of
 operands_is (c ∷ cs) (suc k) d h = operands_is cs k d (omega arith)
 
-module _ (kinds : List Entry) (small : are_few (listed kinds) ≡ true) (s w : List ℕ) (k : ℕ) (d : Entry)
+module _ (kinds : List Entry) (small : few_of_two (listed kinds) ≡ true) (s w : List ℕ) (k : ℕ) (d : Entry)
     (stands : Some w ≡ slice_get (items s) 0) (found : kind_answer (kind_from 0 (listed kinds) w) ≡ Some k) where
   abbrev wanted : ℕ
   wanted = length (get_or kinds k d).operands.now

@@ -3,7 +3,7 @@ use Rattle.std.proofs.Common.{ap, sym, ◌∙◌, rules, tests}
 use Rattle.common.specs.Kinds.{listed}
 use Rattle.lines.specs.Operands.{shown, is_some_shown}
 use Rattle.lines.specs.Items.{kind_is, kind_within, first_taken, taken}
-use Rattle.lines.specs.Rows.{row_unknown, left_bad, right_bad, more_items, no_more}
+use Rattle.lines.specs.Rows.{few_two, row_unknown, left_bad, right_bad, more_items, no_more}
 use Rattle.lines.proofs.row_in.Goals as goal
 
 pub returns-in_err-kind : goal.returns-in_err-kind
@@ -25,7 +25,7 @@ returns-in_err-left c =
     (λ x r q k. search (rules, tests)) c.next.result c.next.new.self c.next.ensures.steps in
     let x = taken _ _ _ c.next-2.result c.next-2.new.self a.left c.next-2.ensures.steps in
     c.from_residual-in_err-left.ensures ∙
-    left_bad c.args.kinds.now c.requires.few c.args.value.now c.in_ok-word.word.now c.in_ok-kind.kind _ (ap shown (sym c.in_ok-word.was) ∙ a.item)
+    left_bad c.args.kinds.now (few_two _ c.requires.few) c.args.value.now c.in_ok-word.word.now c.in_ok-kind.kind _ (ap shown (sym c.in_ok-word.was) ∙ a.item)
     (sym c.kind_number.ensures ∙ c.in_ok-kind.was) (shown c.next-2.result) x.item (sym c.operand.ensures ∙ c.in_err-left.was)
 
 pub returns-in_err-right : goal.returns-in_err-right
@@ -35,7 +35,7 @@ returns-in_err-right c =
     let x = taken _ _ _ c.next-2.result c.next-2.new.self a.left c.next-2.ensures.steps in
     let y = taken _ _ _ c.next-3.result c.next-3.new.self x.left c.next-3.ensures.steps in
     c.from_residual-in_err-right.ensures ∙
-    right_bad c.args.kinds.now c.requires.few c.args.value.now c.in_ok-word.word.now c.in_ok-kind.kind _ (ap shown (sym c.in_ok-word.was) ∙ a.item)
+    right_bad c.args.kinds.now (few_two _ c.requires.few) c.args.value.now c.in_ok-word.word.now c.in_ok-kind.kind _ (ap shown (sym c.in_ok-word.was) ∙ a.item)
     (sym c.kind_number.ensures ∙ c.in_ok-kind.was) (shown c.next-2.result) x.item c.in_ok-left.left (sym c.operand.ensures ∙ c.in_ok-left.was)
     (shown c.next-3.result) y.item (sym c.operand-2.ensures ∙ c.in_err-right.was)
 
@@ -46,7 +46,7 @@ returns-then-is_some c =
     let x = taken _ _ _ c.next-2.result c.next-2.new.self a.left c.next-2.ensures.steps in
     let y = taken _ _ _ c.next-3.result c.next-3.new.self x.left c.next-3.ensures.steps in
     let z = taken _ _ _ c.next-4.result c.next-4.new.self y.left c.next-4.ensures.steps in
-    more_items c.args.kinds.now c.requires.few c.args.value.now c.in_ok-word.word.now c.in_ok-kind.kind _ (ap shown (sym c.in_ok-word.was) ∙ a.item)
+    more_items c.args.kinds.now (few_two _ c.requires.few) c.args.value.now c.in_ok-word.word.now c.in_ok-kind.kind _ (ap shown (sym c.in_ok-word.was) ∙ a.item)
     (sym c.kind_number.ensures ∙ c.in_ok-kind.was) (shown c.next-2.result) x.item c.in_ok-left.left (sym c.operand.ensures ∙ c.in_ok-left.was)
     (shown c.next-3.result) y.item c.in_ok-right.right (sym c.operand-2.ensures ∙ c.in_ok-right.was)
     (shown c.next-4.result) z.item (is_some_shown c.next-4.result ∙ sym c.is_some.ensures ∙ c.if-is_some.true)
@@ -58,7 +58,7 @@ returns c =
     let x = taken _ _ _ c.next-2.result c.next-2.new.self a.left c.next-2.ensures.steps in
     let y = taken _ _ _ c.next-3.result c.next-3.new.self x.left c.next-3.ensures.steps in
     let z = taken _ _ _ c.next-4.result c.next-4.new.self y.left c.next-4.ensures.steps in
-    no_more c.args.kinds.now c.requires.few c.args.value.now c.in_ok-word.word.now c.in_ok-kind.kind _ (ap shown (sym c.in_ok-word.was) ∙ a.item)
+    no_more c.args.kinds.now (few_two _ c.requires.few) c.args.value.now c.in_ok-word.word.now c.in_ok-kind.kind _ (ap shown (sym c.in_ok-word.was) ∙ a.item)
     (sym c.kind_number.ensures ∙ c.in_ok-kind.was) (shown c.next-2.result) x.item c.in_ok-left.left (sym c.operand.ensures ∙ c.in_ok-left.was)
     (shown c.next-3.result) y.item c.in_ok-right.right (sym c.operand-2.ensures ∙ c.in_ok-right.was)
     (shown c.next-4.result) z.item (is_some_shown c.next-4.result ∙ sym c.is_some.ensures ∙ c.if-is_some.false)
